@@ -1,0 +1,242 @@
+/* A plain judge of SpurBus recordings, to measure ours against: the same rules, the same two
+   lines, hold limit 16. Standard input is read 64 KiB at a time.
+   Exit status 0 conforming, 1 breach, 2 refused, 3 unreadable. */
+#include <inttypes.h>
+#include <stdint.h>
+#include <stdio.h>
+#include <string.h>
+#include <unistd.h>
+
+enum { LIMIT = 16, WATCHDOG = 256 };
+static const uint32_t MOST = (uint32_t)1 << 30;
+
+/* The lines in bits 31 to 20 of a record's second word; AD begins in its low 20 bits. */
+#define RESET 0x80000000u
+#define RQST 0x40000000u
+#define START 0x02000000u
+#define ACK 0x01000000u
+#define TM1 0x00800000u
+#define TM0 0x00400000u
+#define SP 0x00200000u
+#define SPV 0x00100000u
+
+struct state {
+    uint32_t stamp, diff0; /* diff0: 1 until a first stamp is there */
+    uint32_t rqst1, rqst2; /* RQST in the last cycle told, and one before it */
+    uint32_t started;      /* a wave's START since the reset */
+    uint32_t turn, arb, since;
+    uint32_t open, age, words, strobes;
+    uint32_t records, starts, acks, aborted;
+    uint64_t span;
+};
+
+static inline uint64_t big64(const uint8_t *p)
+{
+    uint64_t v;
+    memcpy(&v, p, 8);
+    return __builtin_bswap64(v);
+}
+
+/* The words of a START's transfer, 0 for a code without meaning. */
+static inline uint32_t words_of(uint32_t lines, uint32_t ad)
+{
+    if ((lines & TM0) || (ad & 3) != 2)
+        return 1;
+    if (!(ad & 4))
+        return 2;
+    if (!(ad & 8))
+        return 4;
+    if (!(ad & 16))
+        return 8;
+    return ad & 32 ? 0 : 16;
+}
+
+/* Judges records up to the end or a breach, whose rule it gives. */
+static int judge(struct state *state, const uint8_t *p, const uint8_t *end)
+{
+    struct state s = *state;
+    int rule = 0;
+    for (; p < end; p += 16) {
+        uint64_t high = big64(p), low = big64(p + 8);
+        uint32_t stamp = (uint32_t)(high >> 32), lines = (uint32_t)high;
+        uint32_t ad = lines << 12 | (uint32_t)(low >> 52);
+        uint32_t diff = stamp - s.stamp;
+        if (low & 0x7FFF) {
+            rule = 1;
+            break;
+        }
+        if (s.diff0)
+            diff = 0;
+        else if (diff - 1 > 0x7FFFFFFF) {
+            rule = 2;
+            break;
+        }
+        if (lines & RESET) {
+            s.aborted += s.open;
+            s.rqst1 = s.rqst2 = s.started = s.turn = s.open = 0;
+            goto taken;
+        }
+        if ((lines & SPV) && __builtin_parity(ad) != ((lines & SP) != 0)) {
+            rule = 3;
+            break;
+        }
+        uint32_t rqst = lines & RQST;
+        uint32_t before = diff == 1 ? s.rqst1 : 0; /* RQST one cycle before */
+        if (lines & (START | ACK)) {
+            uint32_t words = 1;
+            uint32_t success = (lines & (TM1 | TM0)) == (TM1 | TM0);
+            if (lines & START) {
+                uint32_t arb = lines >> 26 & 15;
+                if (s.open) {
+                    rule = 4;
+                    break;
+                }
+                if (lines & ACK) {
+                    if (!success) {
+                        rule = 6;
+                        break;
+                    }
+                } else if ((words = words_of(lines, ad)) == 0) {
+                    rule = 7;
+                    break;
+                }
+                if (before ? !s.rqst2 || (s.turn && s.since < 2) : !s.started) {
+                    rule = 8;
+                    break;
+                }
+                if (s.rqst1 && diff != 1) {
+                    rule = 9;
+                    break;
+                }
+                if (before) {
+                    if (s.turn && arb >= s.arb) {
+                        if (arb > s.arb) {
+                            rule = 10;
+                            break;
+                        }
+                        if (s.turn >= LIMIT) {
+                            rule = 11;
+                            break;
+                        }
+                        s.turn++;
+                    } else {
+                        s.turn = 1;
+                    }
+                    s.arb = arb;
+                    s.since = 0;
+                    s.started = 1;
+                }
+                s.starts++;
+                if (lines & ACK) {
+                    s.acks++;
+                } else {
+                    s.open = 1;
+                    s.age = s.strobes = 0;
+                    s.words = words;
+                }
+            } else {
+                if (!s.open) {
+                    rule = 5;
+                    break;
+                }
+                if (s.rqst1 && (diff != 1 || !rqst)) {
+                    rule = 9;
+                    break;
+                }
+                if ((uint64_t)s.age + diff > WATCHDOG) {
+                    rule = 12;
+                    break;
+                }
+                if (success && s.strobes != s.words - 1) {
+                    rule = 13;
+                    break;
+                }
+                s.since++;
+                s.acks++;
+                s.open = 0;
+            }
+        } else {
+            if (s.rqst1 && (diff != 1 || !rqst)) {
+                rule = 9;
+                break;
+            }
+            if (s.open) {
+                uint64_t age = (uint64_t)s.age + diff;
+                if (age > WATCHDOG) {
+                    rule = 12;
+                    break;
+                }
+                if ((lines & TM0) && s.words > 1) {
+                    if (s.strobes + 1 >= s.words) {
+                        rule = 13;
+                        break;
+                    }
+                    s.strobes++;
+                }
+                s.age = (uint32_t)age;
+            }
+            s.since++;
+        }
+        if (!before || !rqst)
+            s.turn = 0; /* no wave, or one that begins here */
+        s.rqst2 = before;
+        s.rqst1 = rqst;
+    taken:
+        s.stamp = stamp;
+        s.diff0 = 0;
+        s.span += diff;
+        s.records++;
+    }
+    *state = s;
+    return rule;
+}
+
+static int say(const struct state *s, int rule, int refusal)
+{
+    char text[256];
+    int n = snprintf(text, sizeof text,
+                     "records %" PRIu32 " span %" PRIu64 " starts %" PRIu32 " acks %" PRIu32
+                     " aborted %" PRIu32 " open %" PRIu32 "\n",
+                     s->records, s->span, s->starts, s->acks, s->aborted, s->open);
+    if (rule)
+        n += snprintf(text + n, sizeof text - (size_t)n, "breach rule %d record %" PRIu32 "\n", rule,
+                      s->records);
+    else if (refusal)
+        n += snprintf(text + n, sizeof text - (size_t)n, "refused %d\n", refusal);
+    else
+        n += snprintf(text + n, sizeof text - (size_t)n, "conforming\n");
+    for (int at = 0; at < n;) {
+        ssize_t w = write(1, text + at, (size_t)(n - at));
+        if (w <= 0) {
+            perror("standard output");
+            return 3;
+        }
+        at += (int)w;
+    }
+    return rule ? 1 : refusal ? 2 : 0;
+}
+
+int main(void)
+{
+    static uint8_t bytes[65536];
+    struct state s = {.diff0 = 1};
+    size_t have = 0;
+    for (;;) {
+        ssize_t n = read(0, bytes + have, sizeof bytes - have);
+        if (n < 0) {
+            perror("standard input");
+            return 3;
+        }
+        if (n == 0)
+            return say(&s, 0, have ? 1 : 0);
+        have += (size_t)n;
+        size_t whole = have / 16, room = MOST - s.records;
+        int rule = judge(&s, bytes, bytes + 16 * (whole < room ? whole : room));
+        if (rule)
+            return say(&s, rule, 0);
+        if (whole > room)
+            return say(&s, 0, 8);
+        have -= 16 * whole;
+        memcpy(bytes, bytes + 16 * whole, have);
+    }
+}

@@ -1,0 +1,7 @@
+-- Document 01: "If several apply, the order is ..": the number of the first condition that fails, else what the later ones say.
+use Prim.Native.Nat.{ℕ}
+use mathlib.Core.Bool.{Bool, true, false}
+
+abbrev pub unless : Bool → ℕ → ℕ → ℕ
+unless true number rest = rest
+unless false number rest = number

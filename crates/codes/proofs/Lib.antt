@@ -1,0 +1,6 @@
+pub mod Laws
+pub mod Modes
+pub mod OwedLaws
+pub mod BothWays
+pub mod LosesNothing
+pub mod Examples

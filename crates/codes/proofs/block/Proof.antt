@@ -1,0 +1,53 @@
+use borrow.Author.Needs.{needs}
+use native.Mathlib.Nat.{mod-le}
+use mathlib.Core.Path.{_∙_, ap, sym}
+use Rattle.codes.specs.Start.{meaning}
+use Rattle.codes.proofs.block.Statement.{statement}
+use Rattle.codes.proofs.block.Tie as tie
+
+block-length-requires : tie.Need-block-length-requires
+block-length-requires c κs = search needs
+
+enum-known-unit : tie.Need-enum-known-unit
+enum-known-unit c = search needs
+
+bytes-requires : tie.Need-bytes-requires
+bytes-requires c κs = search needs
+
+rem-low : tie.Need-rem-low
+rem-low c = search needs
+
+sub-means : tie.Need-sub-means
+sub-means c = mod-le _ _
+
+means-requires : tie.Need-means-requires
+means-requires c κs = search needs
+
+enum-told : tie.Need-enum-told
+enum-told c = search needs
+
+returns : tie.Need-returns
+returns c =
+    let a = c .before .before .before .before .before .before .args in
+    c .means .ensures
+    ∙ rw (c .before .bytes .ensures .0)
+    (ap (meaning (a .write) (a .ad)) (sym (c .before .before .before .unit .given .1) ∙ c .before .before .before .before .before .block-length .ensures))
+
+returns-2 : tie.Need-returns-2
+returns-2 c =
+    let a = c .before .before .before .args in
+    ap (meaning (a .write) (a .ad)) (sym (c .enum-told .given .1) ∙ c .before .before .block-length .ensures)
+
+pub block-spec : {M : Type 1} → statement M
+block-spec =
+    tie.close
+    (tie.spec
+    block-length-requires
+    enum-known-unit
+    bytes-requires
+    rem-low
+    sub-means
+    means-requires
+    enum-told
+    returns
+    returns-2)

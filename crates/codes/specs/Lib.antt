@@ -1,0 +1,6 @@
+pub mod Units
+pub mod Start
+pub mod Modes
+pub mod Owed
+pub mod Ack
+pub mod Parity

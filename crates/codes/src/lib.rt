@@ -1,0 +1,316 @@
+// START codes, ACK status and parity (001, 2.6, tables 2.2 to 2.4): what a START asks for, both ways, how an ACK ends it, and SP.
+ghost use mathlib.Core.Path.{_≡_};
+ghost use Prim.Native.Nat.{_<_};
+ghost use Rattle.basics.specs.Lines.{active};
+ghost use Rattle.basics.specs.Answers.{accepted};
+ghost use Rattle.codes.specs.Units.{bytesIn, wordsIn};
+ghost use Rattle.codes.specs.Owed.{wordsOf};
+ghost use Rattle.codes.specs.Start.{blockOf, meaning, decodeOf, decodedAnswer, byteUnit, markOf, encodeOf, encodedAnswer};
+ghost use Rattle.codes.specs.Modes.{modeOf, modeAt, rowOf};
+ghost use Rattle.codes.specs.Ack.{statusOf, statusLinesOf};
+ghost use Rattle.codes.specs.Parity.{parityOf};
+
+// What a transfer moves (001, tables 2.2 and 2.3): a byte, a halfword, a word, or a block of two to sixteen words.
+pub enum Unit {
+    Byte,
+    Halfword,
+    Word,
+    Two,
+    Four,
+    Eight,
+    Sixteen,
+}
+
+// What a master asks for with a START.
+pub struct Operation {
+    pub write: bool,
+    pub unit: Unit,
+    pub address: u32,
+}
+
+// The lines that say so in the START's cycle.
+pub struct Code {
+    pub tm1: bool,
+    pub tm0: bool,
+    pub ad: u32,
+}
+
+// The unit that a START's code names, or none: a block with AD2 to AD5 all active has no length (001, table 2.3).
+pub enum Size {
+    Is(Unit),
+    NoMeaning,
+}
+
+// What a START's lines ask for, or refusal 4.
+pub enum Decoded {
+    Means(Operation),
+    NoMeaning,
+}
+
+// The lines of an operation, or refusal 4.
+pub enum Encoded {
+    By(Code),
+    Unaligned,
+}
+
+// How a transfer ended (001, table 2.4).
+pub enum Status {
+    Success,
+    Error,
+    Timeout,
+    Again,
+}
+
+// The lines that say so in the ACK's cycle.
+pub struct StatusLines {
+    pub tm1: bool,
+    pub tm0: bool,
+}
+
+// What a row of table 2.2 names: of a block it does not say the length, which stands in AD2 upwards (table 2.3).
+pub enum Kind {
+    Byte,
+    Halfword,
+    Word,
+    Block,
+}
+
+// A row of table 2.2: whether it writes, what it names, and the byte of the word at which that begins.
+pub struct Mode(pub bool, pub Kind, pub u8);
+
+// Table 2.2 in its row order: TM1 TM0 AD1 AD0 from all active (LLLL in 001, where low is active) down to none. Nothing else spells it.
+const MODES: [Mode; 16] = [
+    Mode(true, Kind::Byte, 3),
+    Mode(true, Kind::Byte, 2),
+    Mode(true, Kind::Byte, 1),
+    Mode(true, Kind::Byte, 0),
+    Mode(true, Kind::Halfword, 2),
+    Mode(true, Kind::Block, 0),
+    Mode(true, Kind::Halfword, 0),
+    Mode(true, Kind::Word, 0),
+    Mode(false, Kind::Byte, 3),
+    Mode(false, Kind::Byte, 2),
+    Mode(false, Kind::Byte, 1),
+    Mode(false, Kind::Byte, 0),
+    Mode(false, Kind::Halfword, 2),
+    Mode(false, Kind::Block, 0),
+    Mode(false, Kind::Halfword, 0),
+    Mode(false, Kind::Word, 0),
+];
+
+// A row, counted from 0.
+fn mode_at(row: usize) -> Mode
+    requires { ⌜ row < 16 ⌝ }
+    ensures { λ r. ⌜ r ≡ modeAt row ⌝ }
+{
+    MODES[row]
+}
+
+// The row of a START's lines: each active line is nearer to the top.
+fn row_of(tm1: bool, tm0: bool, ad: u32) -> usize
+    ensures { λ r. ⌜ (r ≡ rowOf tm1 tm0 ad) × (r < 16) ⌝ }
+{
+    let high = 8 * basics::one_if(tm1) + 4 * basics::one_if(tm0);
+    15 - (high as usize) - (ad % 4) as usize
+}
+
+// What the table says of the lines of a START.
+fn mode_of(tm1: bool, tm0: bool, ad: u32) -> Mode
+    ensures { λ r. ⌜ r ≡ modeOf tm1 tm0 (active 1 ad) (active 0 ad) ⌝ }
+{
+    mode_at(row_of(tm1, tm0, ad))
+}
+
+// Table 2.3 on the low code bits, turned round so that AD2, which is looked at first, counts most: each length is then one range.
+fn block_length(ad: u32) -> Size
+    ensures { λ r. ⌜ r ≡ blockOf ad ⌝ }
+{
+    let turned = ad / 4 % 2 * 8 + ad / 8 % 2 * 4 + ad / 16 % 2 * 2 + ad / 32 % 2;
+    match turned {
+        0..=7 => Size::Is(Unit::Two),
+        8..=11 => Size::Is(Unit::Four),
+        12..=13 => Size::Is(Unit::Eight),
+        14 => Size::Is(Unit::Sixteen),
+        _ => Size::NoMeaning,
+    }
+}
+
+// A unit's bytes, to which its address is aligned.
+fn bytes(unit: Unit) -> u32
+    ensures { λ r. ⌜ (r ≡ bytesIn unit) × (0 < r) ⌝ }
+{
+    match unit {
+        Unit::Byte => 1,
+        Unit::Halfword => 2,
+        Unit::Word => 4,
+        Unit::Two => 8,
+        Unit::Four => 16,
+        Unit::Eight => 32,
+        Unit::Sixteen => 64,
+    }
+}
+
+// The words that a transfer of the unit owes.
+pub fn words(unit: Unit) -> u8
+    ensures { λ r. ⌜ r ≡ wordsIn unit ⌝ }
+{
+    match unit {
+        Unit::Byte => 1,
+        Unit::Halfword => 1,
+        Unit::Word => 1,
+        Unit::Two => 2,
+        Unit::Four => 4,
+        Unit::Eight => 8,
+        Unit::Sixteen => 16,
+    }
+}
+
+// Every meaning that the decoder gives is made here, from the table's direction, a unit and its address.
+fn means(write: bool, unit: Unit, address: u32) -> Decoded
+    ensures { λ r. ⌜ decodedAnswer r ≡ accepted (record { write = write; unit = unit; address = address }) ⌝ }
+{
+    let op = Operation {
+        write: write,
+        unit: unit,
+        address: address,
+    };
+    Decoded::Means(op)
+}
+
+// A block begins where the lines below its size are zero.
+fn block(write: bool, ad: u32) -> Decoded
+    ensures { λ r. ⌜ decodedAnswer r ≡ meaning write ad (blockOf ad) ⌝ }
+{
+    match block_length(ad) {
+        Size::Is(unit) => {
+            let low = ad % bytes(unit);
+            means(write, unit, ad - low)
+        }
+        Size::NoMeaning => Decoded::NoMeaning,
+    }
+}
+
+// What the lines of a START ask for; refusal 4 for a code with no meaning. A byte, halfword or word stands at its row's offset in the
+// word at AD.
+pub fn decode(code: Code) -> Decoded
+    ensures { λ r. ⌜ decodedAnswer r ≡ decodeOf (code .tm1) (code .tm0) (code .ad) ⌝ }
+{
+    let ad = code.ad;
+    let mode = mode_of(code.tm1, code.tm0, ad);
+    let kind = mode.1;
+    let offset = mode.2 as u32;
+    let address = ad - ad % 4 + offset;
+    match kind {
+        Kind::Byte => means(mode.0, Unit::Byte, address),
+        Kind::Halfword => means(mode.0, Unit::Halfword, address),
+        Kind::Word => means(mode.0, Unit::Word, address),
+        Kind::Block => block(mode.0, ad),
+    }
+}
+
+// The words that a START with these lines owes, 0 where the code has no meaning. A write owes what a read owes.
+pub fn words_owed(tm0: bool, ad: u32) -> u8
+    ensures { λ r. ⌜ r ≡ wordsOf tm0 ad ⌝ }
+{
+    let code = Code {
+        tm1: false,
+        tm0: tm0,
+        ad: ad,
+    };
+    match decode(code) {
+        Decoded::Means(asked) => {
+            let unit = asked.unit;
+            words(unit)
+        }
+        Decoded::NoMeaning => 0,
+    }
+}
+
+// TM0 is active for a byte alone.
+fn is_byte(unit: Unit) -> bool
+    ensures { λ r. ⌜ r ≡ byteUnit unit ⌝ }
+{
+    match unit {
+        Unit::Byte => true,
+        Unit::Halfword => false,
+        Unit::Word => false,
+        Unit::Two => false,
+        Unit::Four => false,
+        Unit::Eight => false,
+        Unit::Sixteen => false,
+    }
+}
+
+// What a unit's code has active among the low lines, which are zero in an aligned address; so the sum in `encode` can't carry.
+fn mark(unit: Unit) -> u32
+    ensures { λ r. ⌜ r ≡ markOf unit ⌝ }
+{
+    match unit {
+        Unit::Byte => 0,
+        Unit::Halfword => 1,
+        Unit::Word => 0,
+        Unit::Two => 2,
+        Unit::Four => 6,
+        Unit::Eight => 14,
+        Unit::Sixteen => 30,
+    }
+}
+
+// The lines that a master drives for an operation; refusal 4 for an address not aligned to its unit.
+pub fn encode(op: Operation) -> Encoded
+    ensures { λ r. ⌜ encodedAnswer r ≡ encodeOf op ⌝ }
+{
+    let unit = op.unit;
+    let address = op.address;
+    if address % bytes(unit) == 0 {
+        let ad = address + mark(unit);
+        Encoded::By(Code {
+            tm1: op.write,
+            tm0: is_byte(unit),
+            ad: ad,
+        })
+    } else {
+        Encoded::Unaligned
+    }
+}
+
+// How an ACK with these lines ends its transfer, and the lines of an ending (001, table 2.4).
+pub fn status_of(tm1: bool, tm0: bool) -> Status
+    ensures { λ r. ⌜ r ≡ statusOf tm1 tm0 ⌝ }
+{
+    if tm1 {
+        if tm0 { Status::Success } else { Status::Error }
+    } else {
+        if tm0 { Status::Timeout } else { Status::Again }
+    }
+}
+
+pub fn status_lines(status: Status) -> StatusLines
+    ensures { λ r. ⌜ r ≡ statusLinesOf status ⌝ }
+{
+    match status {
+        Status::Success => StatusLines {
+            tm1: true,
+            tm0: true,
+        },
+        Status::Error => StatusLines {
+            tm1: true,
+            tm0: false,
+        },
+        Status::Timeout => StatusLines {
+            tm1: false,
+            tm0: true,
+        },
+        Status::Again => StatusLines {
+            tm1: false,
+            tm0: false,
+        },
+    }
+}
+
+// Whether SP is to be active with these AD lines: an odd number of them is.
+pub fn parity(ad: u32) -> bool
+    ensures { λ r. ⌜ r ≡ parityOf ad ⌝ }
+{
+    u32::count_ones(ad) % 2 == 1
+}

@@ -1,0 +1,17 @@
+pub mod NodeLaws
+pub mod AnswerLaws
+pub mod RunLaws
+pub mod View
+pub mod WaveSets
+pub mod Bounds
+pub mod Alone
+pub mod Nearer
+pub mod Sound
+pub mod NextStart
+pub mod Turns
+pub mod WaveEnds
+pub mod Shares
+pub mod OwnStart
+pub mod Demand3
+pub mod Refusals
+pub mod Kept

@@ -1,0 +1,27 @@
+-- The checked examples of document 01 that are about the bus hold by computing, through the lines of the answer. Assumes nothing.
+use mathlib.Core.Path.{_≡_, refl}
+use Rattle.basics.specs.Lines.{bit, active}
+use Rattle.slots.specs.Set.{including, without, topBelow}
+use Rattle.cycle.specs.State.{fresh}
+use Rattle.cycle.specs.Arbitration.{attends, formed, parked, forming, leaves, starting, serving, arbitrationOf}
+use Rattle.cycle.specs.Transfers.{opened, attention, shortOf, struck, goingOn, progressOf}
+use Rattle.cycle.specs.Cycle.{stateBy, replyBy, movedBy, cycleBy, cycleOf}
+use Rattle.cycle.specs.Nodes.{joinedOf, addOf, gathered, setsOf}
+use Rattle.cycle.specs.Runs.{cycleIn, next}
+use Rattle.reached.specs.Cases.{repliesOf, p7Inputs, p7Replies, p8Inputs, p8Replies, holdInputs, holdReplies}
+
+computed : (repliesOf (fresh 1) p7Inputs ≡ p7Replies) × (repliesOf (fresh 1) p8Inputs ≡ p8Replies) × (repliesOf (fresh 2) holdInputs ≡ holdReplies)
+unfolding repliesOf p7Inputs p7Replies p8Inputs p8Replies holdInputs holdReplies next cycleIn cycleOf cycleBy movedBy stateBy replyBy arbitrationOf forming formed parked serving starting leaves attends opened attention shortOf struck goingOn progressOf without including topBelow active bit gathered addOf joinedOf setsOf
+computed = (refl, refl, refl)
+
+-- P7: STARTs in 3 (10), 9 (5), 12 (15), and ACKs in 8 and 10
+pub P7 : repliesOf (fresh 1) p7Inputs ≡ p7Replies
+P7 = computed .0
+
+-- P8: START in 3 and no event: the ACK with timeout in 259, and no other
+pub P8 : repliesOf (fresh 1) p8Inputs ≡ p8Replies
+P8 = computed .1
+
+-- limit 2, 12 holds, 4 and 12 want: STARTs 12, 12, 4
+pub hold : repliesOf (fresh 2) holdInputs ≡ holdReplies
+hold = computed .2

@@ -1,0 +1,98 @@
+-- The checked examples of document 01 that are about the bus: what comes in, and what the bus answers in each cycle.
+use Prim.Native.Nat.{ℕ}
+use mathlib.Core.Path.{_≡_, refl}
+use mathlib.Core.Bool.{Bool, true, false}
+use mathlib.Core.List.{List, [], _∷_, _++_}
+use lib.ListN.{length, set, replicate}
+use Rattle.codes.specs.declared.Status.{Status}
+use Rattle.codes.specs.declared.Status.the-variants.{Success, Timeout}
+use Rattle.cycle.specs.declared.Bus.{Bus}
+use Rattle.cycle.specs.declared.Reply.{Reply}
+use Rattle.cycle.specs.declared.Node.{Node}
+use Rattle.cycle.specs.declared.Event.{Event}
+use Rattle.cycle.specs.declared.Event.the-variants.{Nothing, Finish}
+use Rattle.cycle.specs.declared.Owner.the-variants.{Nobody, Slot}
+use Rattle.cycle.specs.declared.Ending.the-variants.{Unended, Ended}
+use Rattle.cycle.specs.declared.Note.the-variants.{Clear}
+use Rattle.cycle.specs.Bounds.{lawfulWord, lawfulBelow}
+use Rattle.cycle.specs.Nodes.{blank, addOf, gathered, setsOf}
+use Rattle.cycle.specs.Runs.{Input, cycleIn, next}
+
+-- what the bus answers in each cycle
+unfoldable pub repliesOf : Bus → List Input → List Reply
+repliesOf b [] = []
+repliesOf b (i ∷ is) = (cycleIn b i) .reply ∷ repliesOf (next b i) is
+
+-- a node that wants the bus for one word, and one that holds it too
+abbrev pub asker : Node
+asker = record { wants = true; holds = false; words = 1 }
+
+abbrev pub holder : Node
+holder = record { wants = true; holds = true; words = 1 }
+
+-- a table in which slot s has the node n, and one in which slot t has the node o besides
+abbrev pub single : ℕ → Node → List Node
+single s n = set (replicate 16 blank) s n
+
+abbrev pub two : ℕ → Node → ℕ → Node → List Node
+two s n t o = set (single s n) t o
+
+-- a cycle in which nobody starts and nothing ends; one with a START; and one with an ACK. The first line is RQST.
+abbrev pub quiet : Bool → Reply
+quiet rqst = record { rqst = rqst; start = false; ack = false; starter = Nobody; status = Unended; note = Clear }
+
+abbrev pub start : Bool → ℕ → Reply
+start rqst s = record { rqst = rqst; start = true; ack = false; starter = Slot s; status = Unended; note = Clear }
+
+abbrev pub ended : Bool → Status → Reply
+ended rqst s = record { rqst = rqst; start = false; ack = true; starter = Nobody; status = Ended s; note = Clear }
+
+-- an input of these examples: its words are lawful by computing
+abbrev Lawful : List Node → Type 0
+Lawful nodes = lawfulBelow 16 ((setsOf nodes) .words) ≡ true
+
+abbrev given : (e : Event) (nodes : List Node) → length nodes ≡ 16 → Lawful nodes → Input
+given e nodes l w = record { event = e; nodes = nodes; sixteen = l; lawful = w }
+
+-- "limit 1, one word each; 5 and 10 want from cycle 1 until they start, 15 from 4; finishes in 8 and 10"
+unfoldable pub p7Inputs : List Input
+unfolding lawfulBelow lawfulWord setsOf gathered addOf
+p7Inputs =
+    replicate 3 (given Nothing (two 5 asker 10 asker) refl refl)
+    ++ replicate 4 (given Nothing (two 5 asker 15 asker) refl refl)
+    ++ (given (Finish Success) (two 5 asker 15 asker) refl refl ∷ [])
+    ++ (given Nothing (two 5 asker 15 asker) refl refl ∷ [])
+    ++ (given (Finish Success) (single 15 asker) refl refl ∷ [])
+    ++ replicate 2 (given Nothing (single 15 asker) refl refl)
+
+-- "STARTs in 3 (10), 9 (5), 12 (15)"
+unfoldable pub p7Replies : List Reply
+p7Replies =
+    quiet true ∷ quiet true ∷ start true 10 ∷ quiet true ∷ quiet true ∷ quiet true ∷ quiet true ∷ ended true Success ∷ start false 5
+    ∷ ended true Success ∷ quiet true ∷ start false 15 ∷ []
+
+-- "START in 3, no event"
+unfoldable pub p8Inputs : List Input
+unfolding lawfulBelow lawfulWord setsOf gathered addOf
+p8Inputs =
+    replicate 3 (given Nothing (single 5 asker) refl refl)
+    ++ replicate 256 (given Nothing (replicate 16 blank) refl refl)
+
+-- "timeout ACK in 259"
+unfoldable pub p8Replies : List Reply
+p8Replies = quiet true ∷ quiet true ∷ start false 5 ∷ replicate 255 (quiet false) ++ (ended false Timeout ∷ [])
+
+-- "Limit 2, 12 holds, 4 and 12 want"; a transfer ends in the cycle after its START
+unfoldable pub holdInputs : List Input
+unfolding lawfulBelow lawfulWord setsOf gathered addOf
+holdInputs =
+    replicate 3 (given Nothing (two 4 asker 12 holder) refl refl)
+    ++ (given (Finish Success) (two 4 asker 12 holder) refl refl ∷ [])
+    ++ replicate 2 (given Nothing (two 4 asker 12 holder) refl refl)
+    ++ (given (Finish Success) (two 4 asker 12 holder) refl refl ∷ [])
+    ++ replicate 2 (given Nothing (two 4 asker 12 holder) refl refl)
+
+-- "STARTs 12, 12, 4"
+unfoldable pub holdReplies : List Reply
+holdReplies =
+    quiet true ∷ quiet true ∷ start true 12 ∷ ended true Success ∷ quiet true ∷ start true 12 ∷ ended true Success ∷ quiet true ∷ start false 4 ∷ []

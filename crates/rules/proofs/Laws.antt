@@ -1,0 +1,342 @@
+-- Laws of the judge's working form, over plain values: steps and runs, the bounds each way and that they are kept, and a call's refusals.
+-- Assumes nothing.
+use Prim.Native.Nat.{ℕ, zero, suc, _+_, _-_, _*_, _/_, _%_, _^_, _≤_, _<_}
+use mathlib.Core.Bool.{Bool, true, false, not, cond, _&&_, false≢true}
+use mathlib.Core.List.{List, [], _∷_, _++_}
+use mathlib.Core.Path.{_≡_, refl, sym, ap, _∙_}
+use native.Mathlib.Omega.{arith}
+use native.Mathlib.Nat.{zero-add, suc-add}
+use lib.ListN.{take, drop, length, length-drop, length-append}
+use lib.Seq.{take-append-le, drop-append-le}
+use lib.Dec.{leb, ltb, eqb}
+use borrow.Author.Tests.{eq-eqb, ne-eqb, leb-true, ltb-true, eqb-true, le-leb, lt-ltb}
+use Rattle.basics.specs.Lines.{one}
+use Rattle.basics.specs.Order.{unless}
+use Rattle.basics.proofs.Bools.{choice, cond-true, cond-false, and-both, both-and}
+use Rattle.record.specs.declared.Record.{Record}
+use Rattle.record.specs.Layout.{recordIn, fieldsIn}
+use Rattle.codes.specs.Start.{unitOf}
+use Rattle.codes.specs.declared.Size.{Size}
+use Rattle.codes.specs.declared.Size.the-variants.{Is, NoMeaning}
+use Rattle.codes.specs.declared.Unit.{Unit as Moved}
+use Rattle.codes.specs.declared.Unit.the-variants.{Byte, Halfword, Word, Two, Four, Eight, Sixteen}
+use Rattle.rules.specs.declared.Judge.{Judge}
+use Rattle.rules.specs.declared.Wave.{Wave}
+use Rattle.rules.specs.declared.Tally.{Tally}
+use Rattle.rules.specs.declared.Progress.{Progress}
+use Rattle.rules.specs.declared.Transfer.{Transfer}
+use Rattle.rules.specs.declared.Transfer.the-variants.{Idle, Open}
+use Rattle.rules.specs.Rules.{watchdog, implies, difference, sizeWords, wordsOf, strobe, rule1, rule2, rule7, rule11, rule12, rule13, rule13a, rule13b}
+use Rattle.rules.specs.State.{isOpen, openWords, openStrobes, openAge, agedOf, transferOf, askedOf, waveOf, freshJudge, diffOf, resetOf, movedOf, judgeOf, tallyOf}
+use Rattle.rules.specs.Bounds.{limitAllowed, transferBounds, judgeBounds, tallyBounds, SoundTransfer, SoundJudge, SoundTally}
+use Rattle.rules.specs.Run.{Taken, takenIn, recordsIn, lowest, laterRules, ruleOf, from, stepOf, nextOf, runOf}
+use Rattle.rules.specs.Verdict.{mostRecords, refusalOf, refusedBy, outcomeIn, outcomeOf}
+
+-- ---- tests
+-- where the first part holds, the second does
+pub implied : (a b : Bool) → implies a b ≡ true → a ≡ true → b ≡ true
+implied true b e h = e
+implied false b e h = absurd (false≢true h)
+
+pub unless-zero : (b : Bool) (n rest : ℕ) → ltb 0 n ≡ true → unless b n rest ≡ 0 → (b ≡ true) × (rest ≡ 0)
+unless-zero true n rest p e = (refl, e)
+unless-zero false n rest p e = absurd (let h = ltb-true 0 n p in omega arith)
+
+unless-held : {b : Bool} (n rest : ℕ) → b ≡ true → rest ≡ 0 → unless b n rest ≡ 0
+unless-held n rest e z = ap (λ (t : Bool). unless t n rest) e ∙ z
+
+-- a count that a record raises by one at most stays within the records
+count-le : (c n : ℕ) (b : Bool) → c ≤ n → c + one b ≤ n + 1
+count-le c n true h = omega arith
+count-le c n false h = omega arith
+
+-- ---- the rules that a record keeps
+-- every rule of the list holds
+abbrev pub AllHold : List (ℕ × Bool) → Type 0
+AllHold [] = Unit {0}
+AllHold (r ∷ rs) = (r .1 ≡ true) × AllHold rs
+
+abbrev numbered : List (ℕ × Bool) → Bool
+numbered [] = true
+numbered (r ∷ rs) = ltb 0 (r .0) && numbered rs
+
+lowest-all : (rs : List (ℕ × Bool)) → numbered rs ≡ true → lowest rs ≡ 0 → AllHold rs
+lowest-all [] n e = tt
+lowest-all (r ∷ rs) n e =
+    let p = and-both (ltb 0 (r .0)) (numbered rs) n in
+    let q = unless-zero (r .1) (r .0) (lowest rs) (p .0) e in
+    (q .0, lowest-all rs (p .1) (q .1))
+
+-- a record that breaks no rule and has no RESET keeps each rule from 3 up
+pub later-holds : (j : Judge) (r : Taken) (d : ℕ) → ruleOf j r d ≡ 0 → r .lines .reset ≡ false → AllHold (laterRules j (r .lines) d)
+unfolding ruleOf
+later-holds j r d e n =
+    let a = unless-zero (rule1 (r .spare)) 1 _ refl e .1 in
+    let b = unless-zero (rule2 (j .seen) d) 2 _ refl a .1 in
+    lowest-all (laterRules j (r .lines) d) refl (sym (cond-false 0 (lowest (laterRules j (r .lines) d)) n) ∙ b)
+
+-- rule 2, of any record that breaks none
+pub stamp-holds : (j : Judge) (r : Taken) (d : ℕ) → ruleOf j r d ≡ 0 → rule2 (j .seen) d ≡ true
+unfolding ruleOf
+stamp-holds j r d e = unless-zero (rule2 (j .seen) d) 2 _ refl (unless-zero (rule1 (r .spare)) 1 _ refl e .1) .0
+
+-- ---- steps and runs
+-- the state and the tally after a record that breaks no rule
+abbrev pub after : Judge → Tally → Taken → Progress
+after j t r =
+    let d = diffOf j (r .lines .stamp) in
+    from (judgeOf j (r .lines) d) (tallyOf t (isOpen (j .transfer)) (r .lines .reset) (r .lines .start) (r .lines .ack) d)
+
+pub step-good : (j : Judge) (t : Tally) (r : Taken) → ruleOf j r (diffOf j (r .lines .stamp)) ≡ 0 → stepOf j t r ≡ after j t r
+unfolding stepOf
+step-good j t r e = cond-true _ _ (eq-eqb _ 0 e)
+
+pub step-bad : (j : Judge) (t : Tally) (r : Taken) → (ruleOf j r (diffOf j (r .lines .stamp)) ≡ 0 → ⊥) → stepOf j t r ≡ record { rule = ruleOf j r (diffOf j (r .lines .stamp)); judge = j; tally = t }
+unfolding stepOf
+step-bad j t r ne = cond-false _ _ (ne-eqb _ 0 ne)
+
+pub next-open : (p : Progress) (r : Taken) → p .rule ≡ 0 → nextOf p r ≡ stepOf (p .judge) (p .tally) r
+unfolding nextOf
+next-open p r e = cond-true _ _ (eq-eqb (p .rule) 0 e)
+
+pub next-stopped : (p : Progress) (r : Taken) → (p .rule ≡ 0 → ⊥) → nextOf p r ≡ p
+unfolding nextOf
+next-stopped p r ne = cond-false _ _ (ne-eqb (p .rule) 0 ne)
+
+-- after a breach nothing changes
+pub run-stopped : (p : Progress) (rs : List Taken) → (p .rule ≡ 0 → ⊥) → runOf p rs ≡ p
+run-stopped p [] ne = refl
+run-stopped p (r ∷ rs) ne = ap (λ (x : Progress). runOf x rs) (next-stopped p r ne) ∙ run-stopped p rs ne
+
+-- a recording judged in two parts
+pub run-append : (p : Progress) (a b : List Taken) → runOf p (a ++ b) ≡ runOf (runOf p a) b
+run-append p [] b = refl
+run-append p (r ∷ a) b = run-append (nextOf p r) a b
+
+pub records-append : (m n : ℕ) (a b : List ℕ) → length a ≡ m * 16 → recordsIn (m + n) (a ++ b) ≡ recordsIn m a ++ recordsIn n b
+records-append zero n [] b e = ap (λ (k : ℕ). recordsIn k b) (zero-add n)
+records-append zero n (x ∷ a) b e = absurd (omega arith)
+records-append (suc m) n a b e =
+    let le : 16 ≤ length a = omega arith in
+    let rest : length (drop 16 a) ≡ m * 16 = length-drop 16 a ∙ (let z : length a - 16 ≡ m * 16 = omega arith in z) in
+    ap (λ (k : ℕ). recordsIn k (a ++ b)) (suc-add m n)
+    ∙ ap (λ (x : List ℕ). takenIn x ∷ recordsIn (m + n) (drop 16 (a ++ b))) (take-append-le 16 a b le)
+    ∙ ap (λ (x : List ℕ). takenIn (take 16 a) ∷ recordsIn (m + n) x) (drop-append-le 16 a b le)
+    ∙ ap (λ (x : List Taken). takenIn (take 16 a) ∷ x) (records-append m n (drop 16 a) b rest)
+
+-- the same of bytes, the first part being whole records
+pub run-parts : (p : Progress) (a b : List ℕ) → length a % 16 ≡ 0 → runOf p (recordsIn (length (a ++ b) / 16) (a ++ b)) ≡ runOf (runOf p (recordsIn (length a / 16) a)) (recordsIn (length b / 16) b)
+run-parts p a b e =
+    let n : length (a ++ b) / 16 ≡ length a / 16 + length b / 16 = omega (arith, length-append a b) in
+    let w : length a ≡ length a / 16 * 16 = omega arith in
+    ap (λ (k : ℕ). runOf p (recordsIn k (a ++ b))) n
+    ∙ ap (runOf p) (records-append (length a / 16) (length b / 16) a b w)
+    ∙ run-append p (recordsIn (length a / 16) a) (recordsIn (length b / 16) b)
+
+-- ---- the bounds, from tests to facts and back
+transfer-sound : (t : Transfer) → transferBounds t ≡ true → SoundTransfer t
+transfer-sound Idle e = tt
+transfer-sound (Open w s a) e =
+    let p = and-both (leb 1 w && leb w 16 && ltb s w) (leb a watchdog) e in
+    let q = and-both (leb 1 w && leb w 16) (ltb s w) (p .0) in
+    let r = and-both (leb 1 w) (leb w 16) (q .0) in
+    record { low = leb-true 1 w (r .0); high = leb-true w 16 (r .1); few = ltb-true s w (q .1); young = leb-true a watchdog (p .1) }
+
+sound-transfer : (t : Transfer) → SoundTransfer t → transferBounds t ≡ true
+sound-transfer Idle h = refl
+sound-transfer (Open w s a) h =
+    both-and _ _ (both-and _ _ (both-and _ _ (le-leb 1 w (h .low)) (le-leb w 16 (h .high))) (lt-ltb s w (h .few))) (le-leb a watchdog (h .young))
+
+pub judge-sound : (j : Judge) → judgeBounds j ≡ true → SoundJudge j
+unfolding judgeBounds
+judge-sound j e =
+    let p = and-both (limitAllowed (j .limit) && transferBounds (j .transfer) && leb (j .wave .turn) (j .limit)) (leb (j .wave .arb) 15) e in
+    let q = and-both (limitAllowed (j .limit) && transferBounds (j .transfer)) (leb (j .wave .turn) (j .limit)) (p .0) in
+    let r = and-both (limitAllowed (j .limit)) (transferBounds (j .transfer)) (q .0) in
+    let u = and-both (leb 1 (j .limit)) (leb (j .limit) 16) (r .0) in
+    record {
+      low = leb-true 1 (j .limit) (u .0);
+      high = leb-true (j .limit) 16 (u .1);
+      transfer = transfer-sound (j .transfer) (r .1);
+      turn = leb-true (j .wave .turn) (j .limit) (q .1);
+      arb = leb-true (j .wave .arb) 15 (p .1);
+    }
+
+pub sound-judge : (j : Judge) → SoundJudge j → judgeBounds j ≡ true
+unfolding judgeBounds
+sound-judge j h =
+    both-and _ _
+    (both-and _ _
+    (both-and _ _ (both-and _ _ (le-leb 1 (j .limit) (h .low)) (le-leb (j .limit) 16 (h .high))) (sound-transfer (j .transfer) (h .transfer)))
+    (le-leb (j .wave .turn) (j .limit) (h .turn)))
+    (le-leb (j .wave .arb) 15 (h .arb))
+
+pub tally-sound : (t : Tally) → tallyBounds t ≡ true → SoundTally t
+unfolding tallyBounds
+tally-sound t e =
+    let p = and-both (leb (t .span) (2 ^ 31 * t .records) && leb (t .starts) (t .records) && leb (t .acks) (t .records)) (leb (t .aborted) (t .records)) e in
+    let q = and-both (leb (t .span) (2 ^ 31 * t .records) && leb (t .starts) (t .records)) (leb (t .acks) (t .records)) (p .0) in
+    let r = and-both (leb (t .span) (2 ^ 31 * t .records)) (leb (t .starts) (t .records)) (q .0) in
+    record {
+      span = leb-true (t .span) (2 ^ 31 * t .records) (r .0);
+      starts = leb-true (t .starts) (t .records) (r .1);
+      acks = leb-true (t .acks) (t .records) (q .1);
+      aborted = leb-true (t .aborted) (t .records) (p .1);
+    }
+
+pub sound-tally : (t : Tally) → SoundTally t → tallyBounds t ≡ true
+unfolding tallyBounds
+sound-tally t h =
+    both-and _ _
+    (both-and _ _
+    (both-and _ _ (le-leb (t .span) (2 ^ 31 * t .records) (h .span)) (le-leb (t .starts) (t .records) (h .starts)))
+    (le-leb (t .acks) (t .records) (h .acks)))
+    (le-leb (t .aborted) (t .records) (h .aborted))
+
+-- ---- the bounds are kept
+words-le : (u : Moved) → sizeWords (Is u) ≤ 16
+words-le Byte = omega arith
+words-le Halfword = omega arith
+words-le Word = omega arith
+words-le Two = omega arith
+words-le Four = omega arith
+words-le Eight = omega arith
+words-le Sixteen = omega arith
+
+size-le : (s : Size) → sizeWords s ≤ 16
+size-le (Is u) = words-le u
+size-le NoMeaning = omega arith
+
+aged-sound : (t : Transfer) (start ack tm1 tm0 : Bool) (d : ℕ) → SoundTransfer t → rule12 (isOpen t) (openAge t) d ≡ true → rule13 (isOpen t) (openWords t) (openStrobes t) start ack tm1 tm0 ≡ true → SoundTransfer (agedOf t start ack tm0 d)
+aged-sound Idle start ack tm1 tm0 d h r12 r13 = tt
+aged-sound (Open w s a) start ack tm1 tm0 d h r12 r13 =
+    record {
+      low = h .low;
+      high = h .high;
+      few = few-more (strobe w start ack tm0) (h .few) (and-both (rule13a true w s start ack tm0) (rule13b true w s ack tm1 tm0) r13 .0);
+      young = leb-true (a + d) watchdog r12;
+    }
+  where
+    few-more : (b : Bool) → s < w → implies b (ltb (s + 1) w) ≡ true → s + one b < w
+    few-more true lt e = ltb-true (s + 1) w e
+    few-more false lt e = omega arith
+
+transfer-kept : (t : Transfer) (start ack tm1 tm0 : Bool) (ad d : ℕ) → SoundTransfer t → rule7 start ack (wordsOf tm0 ad) ≡ true → rule12 (isOpen t) (openAge t) d ≡ true → rule13 (isOpen t) (openWords t) (openStrobes t) start ack tm1 tm0 ≡ true
+    → SoundTransfer (transferOf t start ack tm0 (wordsOf tm0 ad) d)
+unfolding wordsOf
+transfer-kept t start ack tm1 tm0 ad d h r7 r12 r13 =
+    choice SoundTransfer ack (λ _. tt) (λ na.
+    choice SoundTransfer start (λ st.
+    let some = ltb-true 0 (wordsOf tm0 ad) (implied (start && not ack) _ r7 (both-and start (not ack) st (ap not na))) in
+    record { low = some; high = size-le (unitOf tm0 ad); few = some; young = omega arith })
+    (λ _. aged-sound t start ack tm1 tm0 d h r12 r13))
+
+turn-kept : (limit : ℕ) (w : Wave) (rqst start : Bool) (arb d : ℕ) → 1 ≤ limit → w .turn ≤ limit → rule11 limit start (askedOf w d) arb (w .arb) (w .turn) ≡ true → waveOf w rqst start arb d .turn ≤ limit
+turn-kept limit w rqst start arb d low h r =
+    let P : ℕ → Type 0 = λ k. k ≤ limit in
+    choice P rqst (λ _.
+    choice P (start && askedOf w d) (λ s.
+    choice P (eqb arb (w .arb)) (λ e.
+    let q = ltb-true (w .turn) limit (implied (start && askedOf w d && eqb arb (w .arb)) _ r (both-and _ _ s e)) in omega arith)
+    (λ _. low)) (λ _. h)) (λ _. omega arith)
+
+arb-kept : (w : Wave) (rqst start : Bool) (arb d : ℕ) → arb ≤ 15 → w .arb ≤ 15 → waveOf w rqst start arb d .arb ≤ 15
+arb-kept w rqst start arb d la wa =
+    let P : ℕ → Type 0 = λ k. k ≤ 15 in
+    choice P rqst (λ _. choice P (start && askedOf w d) (λ _. la) (λ _. wa)) (λ _. omega arith)
+
+pub moved-sound : (j : Judge) (r : Record) (d : ℕ) → SoundJudge j → r .arb ≤ 15 → AllHold (laterRules j r d) → SoundJudge (movedOf j r d)
+moved-sound j r d h la a =
+    record {
+      low = h .low;
+      high = h .high;
+      transfer = transfer-kept (j .transfer) (r .start) (r .ack) (r .tm1) (r .tm0) (r .ad) d (h .transfer) (a .1 .1 .1 .1 .0) (a .1 .1 .1 .1 .1 .1 .1 .1 .1 .0) (a .1 .1 .1 .1 .1 .1 .1 .1 .1 .1 .0);
+      turn = turn-kept (j .limit) (j .wave) (r .rqst) (r .start) (r .arb) d (h .low) (h .turn) (a .1 .1 .1 .1 .1 .1 .1 .1 .0);
+      arb = arb-kept (j .wave) (r .rqst) (r .start) (r .arb) d la (h .arb);
+    }
+
+pub fresh-sound : (limit : ℕ) → 1 ≤ limit → limit ≤ 16 → SoundJudge (freshJudge limit)
+fresh-sound limit low high = record { low = low; high = high; transfer = tt; turn = omega arith; arb = omega arith }
+
+pub reset-sound : (j : Judge) (stamp : ℕ) → SoundJudge j → SoundJudge (resetOf j stamp)
+reset-sound j stamp h = record { low = h .low; high = h .high; transfer = tt; turn = omega arith; arb = omega arith }
+
+pub judge-kept : (j : Judge) (r : Taken) (d : ℕ) → SoundJudge j → r .lines .arb ≤ 15 → ruleOf j r d ≡ 0 → SoundJudge (judgeOf j (r .lines) d)
+unfolding judgeOf
+judge-kept j r d h la z =
+    choice SoundJudge (r .lines .reset) (λ _. reset-sound j (r .lines .stamp) h) (λ n. moved-sound j (r .lines) d h la (later-holds j r d z n))
+
+-- the difference that a record may have
+pub diff-le : (j : Judge) (stamp : ℕ) → rule2 (j .seen) (diffOf j stamp) ≡ true → diffOf j stamp ≤ 2 ^ 31
+unfolding diffOf
+diff-le j stamp = le-by (j .seen) (difference (j .stamp) stamp)
+  where
+    le-by : (b : Bool) (n : ℕ) → rule2 b (cond b n 0) ≡ true → cond b n 0 ≤ 2 ^ 31
+    le-by true n e = leb-true n (2 ^ 31) (and-both (leb 1 n) (leb n (2 ^ 31)) e .1)
+    le-by false n e = omega arith
+
+pub tally-kept : (t : Tally) (busy reset start ack : Bool) (d : ℕ) → SoundTally t → d ≤ 2 ^ 31 → SoundTally (tallyOf t busy reset start ack d)
+tally-kept t busy reset start ack d h le =
+    let s = h .span in
+    record { span = omega arith; starts = search (count-le, h .starts); acks = search (count-le, h .acks); aborted = search (count-le, h .aborted) }
+
+-- what a run keeps: the bounds, and no more records counted than there are
+pub record SoundProgress (n : ℕ) (p : Progress) : Type 0 where
+  pub judge : SoundJudge (p .judge)
+  pub tally : SoundTally (p .tally)
+  pub count : p .tally .records ≤ n
+
+pub step-sound : (j : Judge) (t : Tally) (r : Taken) → SoundJudge j → SoundTally t → r .lines .arb ≤ 15 → SoundProgress (t .records + 1) (stepOf j t r)
+unfolding stepOf
+step-sound j t r hj ht la =
+    let d = diffOf j (r .lines .stamp) in
+    choice (SoundProgress (t .records + 1)) (eqb (ruleOf j r d) 0)
+    (λ e. let z = eqb-true (ruleOf j r d) 0 e in
+    record {
+      judge = judge-kept j r d hj la z;
+      tally = tally-kept t (isOpen (j .transfer)) (r .lines .reset) (r .lines .start) (r .lines .ack) d ht (diff-le j (r .lines .stamp) (stamp-holds j r d z));
+      count = omega arith;
+    })
+    (λ _. record { judge = hj; tally = ht; count = omega arith })
+
+next-sound : (p : Progress) (r : Taken) → SoundJudge (p .judge) → SoundTally (p .tally) → r .lines .arb ≤ 15 → SoundProgress (p .tally .records + 1) (nextOf p r)
+unfolding nextOf
+next-sound p r hj ht la =
+    choice (SoundProgress (p .tally .records + 1)) (eqb (p .rule) 0) (λ _. step-sound (p .judge) (p .tally) r hj ht la) (λ _. record { judge = hj; tally = ht; count = omega arith })
+
+-- ARB is four lines
+pub arb-le : (bytes : List ℕ) → recordIn bytes .arb ≤ 15
+unfolding recordIn fieldsIn
+arb-le bytes = omega arith
+
+pub run-sound : (p : Progress) (n : ℕ) (bytes : List ℕ) → SoundJudge (p .judge) → SoundTally (p .tally) → SoundProgress (p .tally .records + n) (runOf p (recordsIn n bytes))
+run-sound p zero bytes hj ht = record { judge = hj; tally = ht; count = omega arith }
+run-sound p (suc n) bytes hj ht =
+    let h = next-sound p (takenIn (take 16 bytes)) hj ht (arb-le (take 16 bytes)) in
+    let r = run-sound (nextOf p (takenIn (take 16 bytes))) n (drop 16 bytes) (h .judge) (h .tally) in
+    record { judge = r .judge; tally = r .tally; count = omega (arith, h .count, r .count) }
+
+-- ---- a call
+-- a call that is not refused
+pub none-refused : (size : ℕ) (j : Judge) (t : Tally) → refusalOf size j t ≡ 0 → SoundJudge j × (SoundTally t × ((t .records + size / 16 ≤ mostRecords) × (size % 16 ≡ 0)))
+unfolding refusalOf
+none-refused size j t e =
+    let a = unless-zero (judgeBounds j && tallyBounds t) 5 _ refl e in
+    let b = unless-zero (leb (t .records + size / 16) mostRecords) 8 _ refl (a .1) in
+    let c = unless-zero (eqb (size % 16) 0) 1 0 refl (b .1) in
+    let s = and-both (judgeBounds j) (tallyBounds t) (a .0) in
+    (judge-sound j (s .0), (tally-sound t (s .1), (leb-true (t .records + size / 16) mostRecords (b .0), eqb-true (size % 16) 0 (c .0))))
+
+pub refusal-none : (size : ℕ) (j : Judge) (t : Tally) → SoundJudge j → SoundTally t → t .records + size / 16 ≤ mostRecords → size % 16 ≡ 0 → refusalOf size j t ≡ 0
+unfolding refusalOf
+refusal-none size j t hj ht room even =
+    unless-held 5 _ (both-and _ _ (sound-judge j hj) (sound-tally t ht))
+    (unless-held 8 _ (le-leb (t .records + size / 16) mostRecords room) (unless-held 1 0 (eq-eqb (size % 16) 0 even) refl))
+
+pub outcome-judged : (bytes : List ℕ) (j : Judge) (t : Tally) → refusalOf (length bytes) j t ≡ 0 → outcomeOf bytes j t ≡ outcomeIn (runOf (from j t) (recordsIn (length bytes / 16) bytes))
+unfolding outcomeOf
+outcome-judged bytes j t e = cond-true _ _ (eq-eqb (refusalOf (length bytes) j t) 0 e)
+
+pub outcome-refused : (bytes : List ℕ) (j : Judge) (t : Tally) → (refusalOf (length bytes) j t ≡ 0 → ⊥) → outcomeOf bytes j t ≡ record { verdict = refusedBy (refusalOf (length bytes) j t); judge = j; tally = t }
+unfolding outcomeOf
+outcome-refused bytes j t ne = cond-false _ _ (ne-eqb (refusalOf (length bytes) j t) 0 ne)

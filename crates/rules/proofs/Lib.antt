@@ -1,0 +1,12 @@
+pub mod Laws
+pub mod Places
+pub mod Hold
+pub mod Ride
+pub mod Step
+pub mod Reach
+pub mod Exactly
+pub mod Parts
+pub mod Told
+pub mod Cases
+pub mod Stamps
+pub mod Answers

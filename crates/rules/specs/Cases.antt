@@ -1,0 +1,177 @@
+-- For each of the thirteen rules a recording, a few records long, that breaks it first, and a near twin that conforms: no rule is empty.
+-- Each recording is judged as bytes, from the start.
+use Prim.Native.Nat.{ℕ}
+use mathlib.Core.Bool.{Bool, true, false}
+use mathlib.Core.List.{List, [], _∷_, _++_}
+use mathlib.Core.Path.{_≡_}
+use lib.ListN.{take}
+use Rattle.record.specs.declared.Record.{Record}
+use Rattle.record.specs.Layout.{packed}
+use Rattle.rules.specs.declared.Verdict.{Verdict}
+use Rattle.rules.specs.declared.Verdict.the-variants.{Conforming, Breach}
+use Rattle.rules.specs.Rules.{difference}
+use Rattle.rules.specs.State.{freshJudge, zeroTally}
+use Rattle.rules.specs.Verdict.{outcomeOf}
+
+-- ---- records
+-- SP and SPV
+pub record Parity : Type 0 where
+  pub sp : Bool
+  pub spv : Bool
+
+-- a record: stamp; RESET, RQST; ARB; START, ACK, TM1, TM0; SP, SPV; AD. The inter-cache lines are inactive
+abbrev pub lines : ℕ → Bool → Bool → ℕ → Bool → Bool → Bool → Bool → Parity → ℕ → Record
+lines stamp reset rqst arb start ack tm1 tm0 parity ad =
+    record {
+      stamp = stamp;
+      reset = reset;
+      rqst = rqst;
+      arb = arb;
+      start = start;
+      ack = ack;
+      tm1 = tm1;
+      tm0 = tm0;
+      sp = parity .sp;
+      spv = parity .spv;
+      ad = ad;
+      vtm1 = false;
+      vtm0 = false;
+      vack = false;
+      vsack = false;
+      vad = 0;
+    }
+
+-- one without RESET, SP and SPV
+abbrev pub cycleAt : ℕ → Bool → Bool → Bool → Bool → Bool → ℕ → ℕ → Record
+cycleAt stamp rqst start ack tm1 tm0 arb ad = lines stamp false rqst arb start ack tm1 tm0 (record { sp = false; spv = false }) ad
+
+-- no line active
+abbrev pub idle : ℕ → Record
+idle stamp = cycleAt stamp false false false false false 0 0
+
+-- RQST alone
+abbrev pub asks : ℕ → Record
+asks stamp = cycleAt stamp true false false false false 0 0
+
+-- a START that reads at AD, in which RQST falls: the wave's last one, or a parked one
+abbrev pub reads : ℕ → ℕ → Record
+reads stamp ad = cycleAt stamp false true false false false 5 ad
+
+-- an attention cycle with this ARB, RQST staying active: more turns follow
+abbrev pub attends : ℕ → ℕ → Record
+attends stamp arb = cycleAt stamp true true true true true arb 0
+
+-- ACK with success, with error
+abbrev pub acks : ℕ → Record
+acks stamp = cycleAt stamp false false true true true 0 0
+
+abbrev pub fails : ℕ → Record
+fails stamp = cycleAt stamp false false true true false 0 0
+
+-- TM0 with neither START nor ACK
+abbrev pub strobes : ℕ → Record
+strobes stamp = cycleAt stamp false false false false true 0 0
+
+-- RESET alone
+abbrev pub resets : ℕ → Record
+resets stamp = lines stamp true false 0 false false false false (record { sp = false; spv = false }) 0
+
+-- SPV over AD 1, with SP or without
+abbrev pub parity : Bool → Record
+parity sp = lines 0 false false 0 false false false false (record { sp = sp; spv = true }) 1
+
+-- ---- recordings
+abbrev pub bytesOf : List Record → List ℕ
+bytesOf [] = []
+bytesOf (r ∷ rs) = packed r ++ bytesOf rs
+
+-- a record whose last spare bit is not zero
+abbrev pub spared : Record → List ℕ
+spared r = take 15 (packed r) ++ (1 ∷ [])
+
+-- the verdict on a recording from the start
+abbrev pub verdictOn : ℕ → List ℕ → Verdict
+verdictOn limit bytes = outcomeOf bytes (freshJudge limit) zeroTally .verdict
+
+-- a wave of one master, which opens a transfer in cycle 2: RQST active for two cycles, then START
+abbrev pub opening : ℕ → List Record
+opening ad = asks 0 ∷ asks 1 ∷ reads 2 ad ∷ []
+
+-- a wave of which the first START, in cycle 2, is an attention cycle with this ARB
+abbrev pub turning : ℕ → List Record
+turning arb = asks 0 ∷ asks 1 ∷ attends 2 arb ∷ []
+
+-- ---- the table
+pub record Case : Type 0 where
+  pub rule : ℕ
+  pub limit : ℕ
+  -- breaks the rule at this place
+  pub place : ℕ
+  pub breaks : List ℕ
+  -- conforms
+  pub twin : List ℕ
+
+abbrev pub row : ℕ → ℕ → ℕ → List Record → List Record → Case
+row rule limit place breaks twin = record { rule = rule; limit = limit; place = place; breaks = bytesOf breaks; twin = bytesOf twin }
+
+abbrev pub cases : List Case
+cases =
+    record { rule = 1; limit = 16; place = 0; breaks = spared (idle 0); twin = bytesOf (idle 0 ∷ []) }
+    -- 0 to 80000001, and to 80000000; equal stamps
+    ∷ row 2 16 1 (idle 0 ∷ idle 0x80000001 ∷ []) (idle 0 ∷ idle 0x80000000 ∷ [])
+    ∷ row 2 16 1 (idle 7 ∷ idle 7 ∷ []) (idle 7 ∷ idle 8 ∷ [])
+    -- FFFFFFFE to 3 is a difference of 5, but 3 to FFFFFFFE is none
+    ∷ row 2 16 1 (idle 3 ∷ idle 0xFFFFFFFE ∷ []) (idle 0xFFFFFFFE ∷ idle 3 ∷ [])
+    ∷ row 3 16 0 (parity false ∷ []) (parity true ∷ [])
+    -- START before the ACK, and after it
+    ∷ row 4 16 3 (opening 0 ++ (reads 3 0 ∷ [])) (opening 0 ++ (acks 3 ∷ reads 4 0 ∷ []))
+    -- a second ACK
+    ∷ row 5 16 4 (opening 0 ++ (acks 3 ∷ acks 4 ∷ [])) (opening 0 ++ (acks 3 ∷ []))
+    -- an attention cycle without TM0
+    ∷ row 6 16 2 (asks 0 ∷ asks 1 ∷ cycleAt 2 false true true true false 5 0 ∷ []) (asks 0 ∷ asks 1 ∷ cycleAt 2 false true true true true 5 0 ∷ [])
+    -- AD 3E and 1E
+    ∷ row 7 16 2 (opening 0x3E) (opening 0x1E)
+    -- 8a: no owner since the reset; RQST inactive, as in a missing cycle
+    ∷ row 8 16 0 (reads 0 0 ∷ []) (opening 0 ++ (acks 3 ∷ reads 9 0 ∷ []))
+    ∷ row 8 16 5 (opening 0 ++ (acks 3 ∷ resets 4 ∷ reads 5 0 ∷ [])) (opening 0 ++ (acks 3 ∷ idle 4 ∷ reads 5 0 ∷ []))
+    -- 8b: RQST active for one cycle
+    ∷ row 8 16 1 (asks 0 ∷ reads 1 0 ∷ []) (opening 0)
+    -- 8c: two cycles after the wave's last START, and three
+    ∷ row 8 16 4 (turning 5 ++ (asks 3 ∷ reads 4 0 ∷ [])) (turning 5 ++ (asks 3 ∷ asks 4 ∷ reads 5 0 ∷ []))
+    -- a parked START in the cycle in which a wave begins is none of the wave's: the wave's first START may come two cycles later
+    ∷ row 8 16 5 (opening 0 ++ (acks 3 ∷ attends 4 5 ∷ reads 5 0 ∷ [])) (opening 0 ++ (acks 3 ∷ attends 4 5 ∷ asks 5 ∷ reads 6 0 ∷ []))
+    -- RQST falls without START, in a record and in a missing cycle
+    ∷ row 9 16 1 (asks 0 ∷ idle 1 ∷ []) (asks 0 ∷ asks 1 ∷ [])
+    ∷ row 9 16 1 (asks 0 ∷ asks 2 ∷ []) (asks 0 ∷ resets 2 ∷ [])
+    -- ARB 0 is slot 0, and 1 is above it
+    ∷ row 10 16 5 (turning 0 ++ (asks 3 ∷ asks 4 ∷ attends 5 1 ∷ [])) (turning 0 ++ (asks 3 ∷ asks 4 ∷ attends 5 0 ∷ []))
+    -- a second START with limit 1
+    ∷ row 11 1 5 (turning 5 ++ (asks 3 ∷ asks 4 ∷ attends 5 5 ∷ [])) (turning 5 ++ (asks 3 ∷ asks 4 ∷ attends 5 4 ∷ []))
+    -- ACK 257 cycles after START, and 256
+    ∷ row 12 16 3 (opening 0 ++ (acks 259 ∷ [])) (opening 0 ++ (acks 258 ∷ []))
+    -- a block of two words: a second strobe; a success without the first; TM0 in a single transfer is no strobe
+    ∷ row 13 16 4 (opening 2 ++ (strobes 3 ∷ strobes 4 ∷ [])) (opening 2 ++ (strobes 3 ∷ acks 4 ∷ []))
+    ∷ row 13 16 3 (opening 2 ++ (acks 3 ∷ [])) (opening 2 ++ (fails 3 ∷ []))
+    ∷ row 13 16 4 (opening 6 ++ (strobes 3 ∷ acks 4 ∷ [])) (opening 0 ++ (strobes 3 ∷ acks 4 ∷ []))
+    ∷ []
+
+-- the judge says of each case's two recordings what it has to
+pub data Shown : List Case → Type 0 where
+  none : Shown []
+  case : {c : Case} {cs : List Case}
+      → verdictOn (c .limit) (c .breaks) ≡ Breach (record { rule = c .rule; place = c .place })
+      → verdictOn (c .limit) (c .twin) ≡ Conforming
+      → Shown cs
+      → Shown (c ∷ cs)
+
+-- the rules that the cases are about
+abbrev pub about : List Case → List ℕ
+about [] = []
+about (c ∷ cs) = c .rule ∷ about cs
+
+-- no rule is empty; and P6, "stamps FFFFFFFE to 3: difference 5. 0 to 80000000 passes; 0 to 80000001, and equal stamps, break rule 2.", of
+-- which the last two are cases of the table
+pub record EachRule : Type 0 where
+  pub shown : Shown cases
+  pub all : about cases ≡ (1 ∷ 2 ∷ 2 ∷ 2 ∷ 3 ∷ 4 ∷ 5 ∷ 6 ∷ 7 ∷ 8 ∷ 8 ∷ 8 ∷ 8 ∷ 8 ∷ 9 ∷ 9 ∷ 10 ∷ 11 ∷ 12 ∷ 13 ∷ 13 ∷ 13 ∷ [])
+  pub p6 : difference 0xFFFFFFFE 3 ≡ 5

@@ -1,0 +1,10 @@
+pub mod Rules
+pub mod State
+pub mod Bounds
+pub mod Run
+pub mod Verdict
+pub mod Recording
+pub mod Thirteen
+pub mod Totals
+pub mod Exact
+pub mod Cases

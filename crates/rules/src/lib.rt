@@ -1,0 +1,117 @@
+// The judge of recordings (document 01, "The judge"): its state, its tally and its verdict. The code that judges stands in the crate `judge`.
+ghost use mathlib.Core.Path.{_≡_};
+ghost use Rattle.rules.specs.Verdict.{freshAnswer, freshOf};
+
+// The transfer that is open before the next record, with its words, the strobes counted so far and its age in cycles.
+pub enum Transfer {
+    Idle,
+    Open { words: u8, strobes: u8, age: u16 },
+}
+
+// What the judge keeps of RQST, of the wave and of its STARTs.
+pub struct Wave {
+    // RQST in the last record, and one cycle before that record
+    pub rqst: bool,
+    pub prior: bool,
+    // a wave's START since the last reset: there is an owner, who may park
+    pub owned: bool,
+    // cycles from the wave's last START to the last record, 3 for three or more and where the wave has had none
+    pub since: u8,
+    // ARB at that START, 15 where there is none, and how many STARTs in a row had it
+    pub arb: u8,
+    pub turn: u8,
+}
+
+// The judge's state before a record.
+pub struct Judge {
+    pub limit: u8,
+    // a record has been judged, and `stamp` is its stamp
+    pub seen: bool,
+    pub stamp: u32,
+    pub transfer: Transfer,
+    pub wave: Wave,
+}
+
+// The totals: records, the sum of the stamps' differences, STARTs, ACKs and aborted transfers.
+pub struct Tally {
+    pub records: u32,
+    pub span: u64,
+    pub starts: u32,
+    pub acks: u32,
+    pub aborted: u32,
+}
+
+// How far a recording has been judged: the rule that a record broke (0: none so far), the state and the tally before that record.
+pub struct Progress {
+    pub rule: u8,
+    pub judge: Judge,
+    pub tally: Tally,
+}
+
+// A broken rule, and the place of its record: the tally's records before it.
+pub struct Broken {
+    pub rule: u8,
+    pub place: u32,
+}
+
+// What a call of the judge says. The last three are refusals 5, 8 and 1.
+pub enum Verdict {
+    Conforming,
+    Breach(Broken),
+    OutOfBounds,
+    TooMany,
+    Torn,
+}
+
+// A verdict with the state that the call leaves, for a caller who lends the tally.
+pub struct Judged {
+    pub verdict: Verdict,
+    pub judge: Judge,
+}
+
+// The same all by value.
+pub struct Outcome {
+    pub verdict: Verdict,
+    pub judge: Judge,
+    pub tally: Tally,
+}
+
+// A fresh judge, or refusal 3.
+pub enum Fresh {
+    Ready(Judge),
+    BadLimit,
+}
+
+impl Judge {
+    // "Watchdog 256 cycles", "Hold limit 1 to 16 STARTs a turn", and at most 2^30 records.
+    pub const WATCHDOG: u16 = 256;
+
+    pub const MOST_STARTS: u8 = 16;
+
+    pub const MOST_RECORDS: u32 = 1073741824;
+
+    // A recording is read as following a reset.
+    pub fn fresh(limit: u8) -> Fresh
+        ensures { λ r. ⌜ freshAnswer r ≡ freshOf limit ⌝ }
+    {
+        if (1 <= limit) & (limit <= Judge::MOST_STARTS) {
+            let wave = Wave {
+                rqst: false,
+                prior: false,
+                owned: false,
+                since: 3,
+                arb: 15,
+                turn: 0,
+            };
+            let judge = Judge {
+                limit: limit,
+                seen: false,
+                stamp: 0,
+                transfer: Transfer::Idle,
+                wave: wave,
+            };
+            return Fresh::Ready(judge);
+        }
+        Fresh::BadLimit
+    }
+}

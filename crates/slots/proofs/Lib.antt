@@ -1,0 +1,4 @@
+pub mod MemberLaws
+pub mod TopLaws
+pub mod SizeLaws
+pub mod WithLaws

@@ -1,0 +1,259 @@
+/* Long inputs made on the fly: random bytes, a long recording whose memory is measured, and the
+   bound of 2^30 records. */
+#define _DEFAULT_SOURCE 1
+#include <stdio.h>
+#include <stdlib.h>
+#include <string.h>
+#include <time.h>
+#include "faults.h"
+
+enum { BLOCK = 4096 }; /* records written at once */
+
+/* A block of sound traffic that starts and ends at a reset, so that it can be repeated: only the
+   stamps move on. */
+struct block {
+    uint8_t bytes[BLOCK * RECORD];
+    struct tally t;    /* of one block, the step from the block before included in the span */
+    uint32_t stamps[BLOCK];
+};
+
+static void make_block(struct block *b, unsigned long seed)
+{
+    struct rng g = {seed};
+    struct maker m;
+    struct record r = {.reset = 1};
+    maker_start(&m, &g, 16);
+    maker_try(&m, &r, 0);
+    while (m.out.len < (BLOCK - 1) * RECORD) {
+        unsigned spare;
+        if (rng_chance(&g, 3))
+            wild_setup(&m, 4 + (int)rng_below(&g, 10));
+        wild_propose(&m, &r, &spare, 0);
+        if (r.stamp - m.j.stamp < 300) /* no long jumps: 2^30 records are to fit any clock */
+            maker_try(&m, &r, spare);
+    }
+    /* Cut to length by judging the first BLOCK - 1 again, and a RESET at the end. */
+    struct judge j;
+    memset(&b->t, 0, sizeof b->t);
+    judge_fresh(&j, 16);
+    memcpy(b->bytes, m.out.bytes, (BLOCK - 1) * RECORD);
+    for (size_t i = 0; i < BLOCK - 1; i++)
+        judge_one(&j, &b->t, b->bytes + i * RECORD);
+    r = (struct record){.stamp = j.stamp + 1, .reset = 1};
+    record_write(&r, b->bytes + (BLOCK - 1) * RECORD);
+    judge_one(&j, &b->t, b->bytes + (BLOCK - 1) * RECORD);
+    if (b->t.records != BLOCK) {
+        fprintf(stderr, "the block is not sound\n");
+        exit(2);
+    }
+    b->t.span += 1;
+    for (size_t i = 0; i < BLOCK; i++) {
+        struct record s;
+        record_read(&s, b->bytes + i * RECORD);
+        b->stamps[i] = s.stamp;
+    }
+    buffer_free(&m.out);
+}
+
+/* The totals of so many blocks. */
+static struct tally blocks_tally(const struct block *b, uint64_t blocks)
+{
+    struct tally t;
+    t.records = (uint32_t)(b->t.records * blocks);
+    t.span = b->t.span * blocks - 1;
+    t.starts = (uint32_t)(b->t.starts * blocks);
+    t.acks = (uint32_t)(b->t.acks * blocks);
+    t.aborted = (uint32_t)(b->t.aborted * blocks);
+    return t;
+}
+
+struct stream {
+    struct block *block;
+    uint64_t blocks;
+    size_t more; /* bytes of one further block */
+};
+
+static void set_stamps(struct block *b, uint32_t base)
+{
+    for (size_t i = 0; i < BLOCK; i++) {
+        uint32_t s = b->stamps[i] + base;
+        uint8_t *at = b->bytes + i * RECORD;
+        at[0] = (uint8_t)(s >> 24);
+        at[1] = (uint8_t)(s >> 16);
+        at[2] = (uint8_t)(s >> 8);
+        at[3] = (uint8_t)s;
+    }
+}
+
+static void write_stream(int to, void *with)
+{
+    struct stream *s = with;
+    uint32_t base = 0;
+    for (uint64_t i = 0; i < s->blocks; i++, base += (uint32_t)s->block->t.span) {
+        set_stamps(s->block, base);
+        if (write_all(to, s->block->bytes, sizeof s->block->bytes) != 0)
+            return;
+    }
+    set_stamps(s->block, base);
+    write_all(to, s->block->bytes, s->more);
+}
+
+/* Runs the stream, compares the text, and gives the memory used in KiB, or -1. */
+static long run_stream(const char *what, struct stream *s, int refusal)
+{
+    struct plan p = {.command = set.command, .out = -2, .write = write_stream, .with = s,
+                     .seconds = set.seconds + (int)(s->blocks / 256)};
+    struct tally t = blocks_tally(s->block, s->blocks);
+    struct result r;
+    char text[TEXT], detail[4 * TEXT];
+    struct timespec a, b;
+    judge_text(&t, 0, 0, refusal, text);
+    clock_gettime(CLOCK_MONOTONIC, &a);
+    run_plan(&p, &r);
+    clock_gettime(CLOCK_MONOTONIC, &b);
+    double took = (double)(b.tv_sec - a.tv_sec) + (double)(b.tv_nsec - a.tv_nsec) / 1e9;
+    int good = printed(&r, text);
+    if (good)
+        snprintf(detail, sizeof detail, "%llu records, %.1f s, %ld KiB, %s",
+                 (unsigned long long)(s->blocks * BLOCK), took, r.memory, strchr(text, '\n') + 1);
+    else
+        snprintf(detail, sizeof detail, "expected\n%sgot (%s)\n%.*s", text, ending(&r),
+                 (int)r.out.len, r.out.bytes == NULL ? "" : (const char *)r.out.bytes);
+    char *end = strrchr(detail, '\n');
+    if (end != NULL)
+        *end = '\0';
+    outcome(good, what, detail);
+    long memory = good ? r.memory : -1;
+    result_free(&r);
+    return memory;
+}
+
+/* The same memory at 1 MiB and at the size asked for. */
+void big_memory(void)
+{
+    struct block *b = malloc(sizeof *b);
+    struct stream s = {b, 16, 0};
+    char detail[100];
+    if (b == NULL)
+        exit(2);
+    make_block(b, set.seed);
+    long small = run_stream("1 MiB", &s, 0);
+    s.blocks = 16 * (uint64_t)set.megabytes;
+    long large = run_stream("the long recording", &s, 0);
+    snprintf(detail, sizeof detail, "%ld KiB at 1 MiB, %ld KiB at %lu MiB", small, large,
+             set.megabytes);
+    long apart = large > small ? large - small : small - large;
+    outcome(small >= 0 && large >= 0 && apart <= 256 + small / 10, "memory doesn't grow", detail);
+    free(b);
+}
+
+/* 2^30 records conform; one more is refused 8; a torn piece more is refused 1; both are 8. */
+void big_boundary(void)
+{
+    struct block *b = malloc(sizeof *b);
+    struct stream s = {b, MOST_RECORDS / BLOCK, 0};
+    if (b == NULL)
+        exit(2);
+    make_block(b, set.seed + 1);
+    run_stream("2^30 records", &s, 0);
+    s.more = RECORD;
+    run_stream("2^30 records and one", &s, 8);
+    s.more = 5;
+    run_stream("2^30 records and a torn piece", &s, 1);
+    s.more = RECORD + 5;
+    run_stream("2^30 records, one and a torn piece", &s, 8);
+    free(b);
+}
+
+/* Random bytes. As they are, they break a rule at once; with the spare bits and stamps put right,
+   a little later; with RESET active as well, never, and all lines but that are noise. */
+enum kind { AS_THEY_ARE, LINES, RESETS };
+struct random {
+    enum kind kind;
+    unsigned long seed;
+    uint64_t bytes;
+};
+
+static void random_block(struct rng *g, enum kind kind, uint32_t *stamp, uint8_t *out)
+{
+    for (size_t i = 0; i < BLOCK * RECORD; i += 8) {
+        uint64_t v = rng_next(g);
+        memcpy(out + i, &v, 8);
+    }
+    if (kind == AS_THEY_ARE)
+        return;
+    for (size_t i = 0; i < BLOCK; i++) {
+        uint8_t *b = out + i * RECORD;
+        *stamp += 1 + (kind == RESETS ? (uint32_t)(b[15] << 8 | b[14]) << (b[13] & 15) : 0);
+        b[0] = (uint8_t)(*stamp >> 24);
+        b[1] = (uint8_t)(*stamp >> 16);
+        b[2] = (uint8_t)(*stamp >> 8);
+        b[3] = (uint8_t)*stamp;
+        b[4] = kind == RESETS ? b[4] | 0x80 : b[4] & 0x7F;
+        if (kind == LINES && b[13] % 16 != 0) { /* mostly neither START, ACK, RQST nor SPV */
+            b[4] &= 0x3C;
+            b[5] &= 0xEF;
+        }
+        b[14] &= 0x80;
+        b[15] = 0;
+    }
+}
+
+static void write_random(int to, void *with)
+{
+    struct random *r = with;
+    struct rng g = {r->seed};
+    static uint8_t bytes[BLOCK * RECORD];
+    uint32_t stamp = 0;
+    for (uint64_t left = r->bytes; left > 0;) {
+        size_t n = left < sizeof bytes ? (size_t)left : sizeof bytes;
+        random_block(&g, r->kind, &stamp, bytes);
+        if (write_all(to, bytes, n) != 0)
+            return;
+        left -= n;
+    }
+}
+
+static void random_run(enum kind kind, uint64_t size, unsigned long seed, int say)
+{
+    static const char *const names[] = {"random bytes", "random lines", "random lines in resets"};
+    static uint8_t bytes[BLOCK * RECORD];
+    struct random with = {kind, seed, size};
+    struct plan p = {.command = set.command, .out = -2, .write = write_random, .with = &with,
+                     .seconds = set.seconds + (int)(size >> 24)};
+    struct rng g = {seed};
+    struct judge j;
+    struct tally t = {0};
+    struct result r;
+    char text[TEXT], detail[4 * TEXT] = "";
+    uint32_t stamp = 0;
+    int rule = 0;
+    judge_fresh(&j, 16);
+    for (uint64_t at = 0; size - at >= RECORD && rule == 0; at += RECORD) {
+        if (at % sizeof bytes == 0)
+            random_block(&g, kind, &stamp, bytes);
+        rule = judge_one(&j, &t, bytes + at % sizeof bytes);
+    }
+    judge_text(&t, j.open, rule, size % RECORD != 0, text);
+    run_plan(&p, &r);
+    int good = printed(&r, text);
+    if (!good)
+        snprintf(detail, sizeof detail, "%llu bytes, seed %lu: expected\n%sgot (%s)\n%.*s",
+                 (unsigned long long)size, seed, text, ending(&r), (int)r.out.len,
+                 r.out.bytes == NULL ? "" : (const char *)r.out.bytes);
+    else if (say)
+        snprintf(detail, sizeof detail, "%llu bytes, %lu records judged", (unsigned long long)size,
+                 (unsigned long)t.records);
+    outcome(good, names[kind], detail);
+    result_free(&r);
+}
+
+void big_random(void)
+{
+    struct rng g = {set.seed + 2};
+    for (int i = 0; i < 30; i++)
+        random_run((enum kind)(i % 3), rng_below(&g, 100000), (unsigned long)rng_next(&g), 0);
+    for (int kind = AS_THEY_ARE; kind <= RESETS; kind++)
+        random_run((enum kind)kind, ((uint64_t)set.megabytes << 20) + 3 * (kind == RESETS),
+                   (unsigned long)rng_next(&g), 1);
+}

@@ -1,0 +1,29 @@
+#!/bin/sh
+# Builds the outside tests and the benchmark's programs: tests/build.sh OUTDIR
+# CC may name another compiler.
+set -e
+out=${1:?usage: tests/build.sh OUTDIR}
+mkdir -p "$out/obj"
+out=$(cd "$out" && pwd)
+cd "$(dirname "$0")"
+flags="-O2 -std=c11 -Wall -Wextra -Werror"
+model="record codes contest bus cache judging calls"
+makers="make traffic wild damage callsmake callsbus callscache callsjudge"
+running="run describe compare"
+for c in *.c; do
+    ${CC:-cc} $flags -c -o "$out/obj/${c%.c}.o" "$c"
+done
+link() { # the program, then its objects
+    program=$1
+    (cd "$out/obj" && ${CC:-cc} -o "../$program" $(for o in "$@"; do echo "$o.o"; done))
+}
+link modelcalls $model
+link modeljudge $model
+link outside $model $makers $running
+link faults bigstreams $model $makers $running
+link golden goldenrules $model $makers $running
+link selftest lookback $model $makers
+link makerec $model $makers
+for p in judge make; do
+    ${CC:-cc} -O3 -std=c11 -Wall -Wextra -Werror -o "$out/bench$p" "../bench/$p.c"
+done

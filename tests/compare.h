@@ -1,0 +1,25 @@
+/* Comparing a program's answers with the model's, and making a disagreement small. */
+#ifndef COMPARE_H
+#define COMPARE_H
+#include "run.h"
+
+/* Where and how a program's output differs from the model's: the unit (call or record) at which
+   it is told, or -1 for none. */
+struct subject_program {
+    const char *command;
+    size_t unit;     /* 64 for calls, 16 for records */
+    struct feed feed;
+    int seconds;
+    int statuses;    /* judge: the exit status is to be 0, 1, 2 by verdict */
+};
+long disagree(const struct subject_program *p, const struct buffer *in, FILE *say);
+/* Drops units and clears bytes while the disagreement stays. */
+void shrink(const struct subject_program *p, struct buffer *in);
+
+/* What the answers met so far covered. */
+struct coverage {
+    unsigned long calls, skipped, by_op[256], refusals[256], rules[14], notes[4];
+    unsigned long op_refusal[23][9];
+};
+extern struct coverage covered;
+#endif

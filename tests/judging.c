@@ -1,0 +1,253 @@
+/* The judge of recordings (01, "The judge"). Each rule is worked out by itself from the state
+   before the record and the record; the lowest broken one is told. */
+#include <stdio.h>
+#include "spur.h"
+
+int judge_fresh(struct judge *j, unsigned limit)
+{
+    if (limit < 1 || limit > 16)
+        return 3;
+    *j = (struct judge){.limit = (uint8_t)limit};
+    return 0;
+}
+
+/* The bounds for refusal 5: exactly the paper's list. */
+int judge_bounds(const struct judge *j, const struct tally *t)
+{
+    if (j->limit < 1 || j->limit > 16 || j->turn > j->limit || j->arb > 15)
+        return 0;
+    if (j->open && (j->age > WATCHDOG || j->words < 1 || j->words > 16 || j->strobes >= j->words))
+        return 0;
+    if (t->span > ((uint64_t)1 << 31) * t->records)
+        return 0;
+    return t->starts <= t->records && t->acks <= t->records && t->aborted <= t->records;
+}
+
+/* What a record is, seen from the state before it. */
+struct view {
+    uint32_t diff;  /* to the last stamp; 0 where there is none */
+    int gap;        /* cycles are missing before it */
+    int rqst1, rqst2; /* RQST one cycle before, and two */
+    int of_wave, parked; /* a START with RQST active one cycle before, or without */
+    uint64_t age;   /* of the open transfer, in this record's cycle */
+};
+
+static struct view look(const struct judge *j, const struct record *r)
+{
+    struct view v = {0};
+    v.diff = j->has_stamp ? r->stamp - j->stamp : 0;
+    v.gap = j->has_stamp && v.diff != 1;
+    v.rqst1 = j->has_stamp && !v.gap && j->rqst1;
+    v.rqst2 = j->has_stamp && !v.gap && j->rqst2;
+    v.of_wave = r->start && v.rqst1;
+    v.parked = r->start && !v.rqst1;
+    v.age = j->open ? (uint64_t)j->age + v.diff : 0;
+    return v;
+}
+
+/* Rule 8, and the distance to the wave's last START. */
+static int too_early(const struct judge *j, const struct view *v)
+{
+    if (v->parked)
+        return !j->started;
+    if (v->of_wave)
+        return !v->rqst2 || (j->turn > 0 && j->since + 1 < 3);
+    return 0;
+}
+
+/* Rule 9: RQST may fall only in a cycle with START; a missing cycle has none. */
+static int fell(const struct judge *j, const struct record *r, const struct view *v)
+{
+    if (!j->rqst1)
+        return 0;
+    return v->gap || (!r->rqst && !r->start);
+}
+
+/* Rule 13: too many strobes, or a successful ACK before all words. */
+static int miscounted(const struct judge *j, const struct record *r)
+{
+    if (!j->open || r->start)
+        return 0;
+    if (r->ack)
+        return code_status(r->tm1, r->tm0) == SUCCESS && j->strobes != j->words - 1;
+    return j->words > 1 && r->tm0 && j->strobes + 1 > j->words - 1;
+}
+
+/* All the rules that the record breaks, bit n for rule n. */
+uint32_t judge_broken(const struct judge *j, const struct record *r, unsigned spare)
+{
+    struct view v = look(j, r);
+    struct operation op;
+    uint32_t broken = 0;
+    if (spare != 0)
+        broken |= 1u << 1;
+    if (j->has_stamp && (v.diff < 1 || v.diff > (uint32_t)1 << 31))
+        broken |= 1u << 2;
+    if (r->reset)
+        return broken;
+    if (r->spv && r->sp != code_parity(r->ad))
+        broken |= 1u << 3;
+    if (r->start && j->open)
+        broken |= 1u << 4;
+    if (r->ack && !r->start && !j->open)
+        broken |= 1u << 5;
+    if (r->start && r->ack && !(r->tm1 && r->tm0))
+        broken |= 1u << 6;
+    if (r->start && !r->ack && code_decode(&op, r->tm1, r->tm0, r->ad) != 0)
+        broken |= 1u << 7;
+    if (too_early(j, &v))
+        broken |= 1u << 8;
+    if (fell(j, r, &v))
+        broken |= 1u << 9;
+    if (v.of_wave && j->turn > 0 && r->arb > j->arb)
+        broken |= 1u << 10;
+    if (v.of_wave && j->turn > 0 && r->arb == j->arb && j->turn >= j->limit)
+        broken |= 1u << 11;
+    if (j->open && v.age > WATCHDOG)
+        broken |= 1u << 12;
+    if (miscounted(j, r))
+        broken |= 1u << 13;
+    return broken;
+}
+
+int judge_lowest(uint32_t broken)
+{
+    int rule = 0;
+    while (broken != 0 && !(broken & 1)) {
+        rule++;
+        broken >>= 1;
+    }
+    return broken == 0 ? 0 : rule;
+}
+
+/* What the wave was and becomes: it begins with RQST and ends with the START in which it falls. */
+static void take_wave(struct judge *j, const struct record *r, const struct view *v)
+{
+    if (v->of_wave) {
+        j->turn = j->turn > 0 && j->arb == r->arb ? (uint8_t)(j->turn + 1) : 1;
+        j->arb = r->arb;
+        j->since = 0;
+        j->started = 1;
+    } else if (j->turn > 0 && j->since < 3) {
+        j->since++;
+    }
+    if (!r->rqst || !v->rqst1) { /* no wave, or one that begins here */
+        j->turn = 0;
+        j->arb = 0;
+        j->since = 0;
+    }
+    j->rqst2 = (uint8_t)v->rqst1;
+    j->rqst1 = r->rqst;
+}
+
+/* What the transfer becomes, and the counts of STARTs and ACKs. */
+static void take_transfer(struct judge *j, struct tally *t, const struct record *r,
+                          const struct view *v)
+{
+    struct operation op;
+    t->starts += r->start;
+    t->acks += r->ack;
+    if (r->start && !r->ack) {
+        code_decode(&op, r->tm1, r->tm0, r->ad);
+        j->open = 1;
+        j->age = 0;
+        j->words = (uint8_t)code_words(op.unit);
+        j->strobes = 0;
+    } else if (r->ack && !r->start) {
+        j->open = j->words = j->strobes = 0;
+        j->age = 0;
+    } else if (j->open) {
+        j->age = (uint16_t)v->age;
+        if (j->words > 1 && r->tm0)
+            j->strobes++;
+    }
+}
+
+/* Takes a record that breaks no rule. */
+void judge_take(struct judge *j, struct tally *t, const struct record *r)
+{
+    struct view v = look(j, r);
+    t->records++;
+    t->span += v.diff;
+    if (r->reset) {
+        t->aborted += j->open;
+        judge_fresh(j, j->limit);
+    } else {
+        take_wave(j, r, &v);
+        take_transfer(j, t, r, &v);
+    }
+    j->has_stamp = 1;
+    j->stamp = r->stamp;
+}
+
+/* Judges one record of 16 bytes and takes it if no rule is broken. */
+int judge_one(struct judge *j, struct tally *t, const uint8_t *bytes)
+{
+    struct record r;
+    unsigned spare = record_read(&r, bytes);
+    int rule = judge_lowest(judge_broken(j, &r, spare));
+    if (rule == 0)
+        judge_take(j, t, &r);
+    return rule;
+}
+
+/* Refusals in the order 5, 8, 1; else judged up to the first breach. */
+int judge_recording(struct judge *j, struct tally *t, const uint8_t *bytes, size_t len,
+                    struct verdict *v)
+{
+    *v = (struct verdict){0, 0};
+    if (!judge_bounds(j, t))
+        return 5;
+    if (t->records + (uint64_t)(len / RECORD) > MOST_RECORDS)
+        return 8;
+    if (len % RECORD != 0)
+        return 1;
+    for (size_t at = 0; at < len; at += RECORD) {
+        int rule = judge_one(j, t, bytes + at);
+        if (rule != 0) {
+            v->rule = rule;
+            v->record = t->records;
+            return 0;
+        }
+    }
+    return 0;
+}
+
+/* The judging program's two lines (01, "Checked examples", its end). */
+void judge_text(const struct tally *t, int open, int rule, int refusal, char *text)
+{
+    int n = snprintf(text, TEXT, "records %lu span %llu starts %lu acks %lu aborted %lu open %d\n",
+                     (unsigned long)t->records, (unsigned long long)t->span,
+                     (unsigned long)t->starts, (unsigned long)t->acks, (unsigned long)t->aborted,
+                     open);
+    if (rule != 0)
+        snprintf(text + n, TEXT - (size_t)n, "breach rule %d record %lu\n", rule,
+                 (unsigned long)t->records);
+    else if (refusal != 0)
+        snprintf(text + n, TEXT - (size_t)n, "refused %d\n", refusal);
+    else
+        snprintf(text + n, TEXT - (size_t)n, "conforming\n");
+}
+
+int judge_program(const uint8_t *bytes, size_t len, char *text)
+{
+    struct judge j;
+    struct tally t = {0};
+    int refusal = 0;
+    judge_fresh(&j, 16);
+    for (size_t at = 0; len - at >= RECORD; at += RECORD) {
+        if (t.records == MOST_RECORDS) {
+            refusal = 8;
+            break;
+        }
+        int rule = judge_one(&j, &t, bytes + at);
+        if (rule != 0) {
+            judge_text(&t, j.open, rule, 0, text);
+            return 1;
+        }
+    }
+    if (refusal == 0 && len % RECORD != 0)
+        refusal = 1;
+    judge_text(&t, j.open, 0, refusal, text);
+    return refusal != 0 ? 2 : 0;
+}

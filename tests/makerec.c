@@ -1,0 +1,80 @@
+/* Writes a recording to standard output:
+
+   makerec boot RECORDS          a boot-like run that conforms
+   makerec breach RECORDS RULE   the same, with a record two thirds on that breaks the rule
+   makerec sound RECORDS SEED    simulated traffic of any kind that conforms
+   makerec wild RECORDS SEED     whatever conforms
+   makerec damage RULE SEED      a recording whose first breach is of the rule */
+#define _DEFAULT_SOURCE 1
+#include <stdio.h>
+#include <stdlib.h>
+#include <string.h>
+#include "make.h"
+
+/* A boot with one record changed so that it breaks the rule, and no lower one. */
+static int break_boot(struct maker *m, int rule)
+{
+    struct judge j;
+    struct tally t = {0};
+    size_t records = m->out.len / RECORD;
+    judge_fresh(&j, 16);
+    for (size_t i = 0; i < records; i++) {
+        uint8_t *at = m->out.bytes + i * RECORD;
+        for (int tries = 0; i > records * 2 / 3 && tries < 200; tries++) {
+            struct record r;
+            unsigned spare = record_read(&r, at);
+            switch (rng_below(m->g, 7)) { /* one line or field, as a bad board would */
+            case 0: r.start = !r.start; break;
+            case 1: r.ack = !r.ack; break;
+            case 2: r.rqst = !r.rqst; break;
+            case 3: r.tm0 = !r.tm0; break;
+            case 4: r.sp = !r.sp; break;
+            case 5: r.arb = (uint8_t)rng_below(m->g, 16); break;
+            case 6: r.stamp += 1 + rng_below(m->g, 400); break;
+            }
+            if (judge_lowest(judge_broken(&j, &r, spare)) == rule) {
+                record_write(&r, at);
+                return 1;
+            }
+        }
+        judge_one(&j, &t, at);
+    }
+    return 0;
+}
+
+int main(int argc, char **argv)
+{
+    struct rng g = {19861023};
+    struct maker m;
+    unsigned long a = argc > 2 ? strtoul(argv[2], NULL, 0) : 0;
+    unsigned long b = argc > 3 ? strtoul(argv[3], NULL, 0) : 0;
+    const char *what = argc > 2 ? argv[1] : "";
+    maker_start(&m, &g, 16);
+    if (strcmp(what, "boot") == 0) {
+        traffic_boot(&m, a);
+    } else if (strcmp(what, "breach") == 0 && b >= 1 && b <= 13) {
+        traffic_boot(&m, a);
+        if (!break_boot(&m, (int)b)) {
+            fprintf(stderr, "that rule could not be broken there\n");
+            return 2;
+        }
+    } else if (strcmp(what, "sound") == 0) {
+        g.state = b;
+        traffic_bus(&m, a);
+    } else if (strcmp(what, "wild") == 0) {
+        g.state = b;
+        traffic_wild(&m, a);
+    } else if (strcmp(what, "damage") == 0 && a >= 1 && a <= 13) {
+        g.state = b;
+        damage(&m, (int)a);
+    } else {
+        fprintf(stderr, "makerec boot RECORDS | breach RECORDS RULE | sound RECORDS SEED | "
+                        "wild RECORDS SEED | damage RULE SEED\n");
+        return 2;
+    }
+    if (fwrite(m.out.bytes, 1, m.out.len, stdout) != m.out.len || fflush(stdout) != 0) {
+        perror("standard output");
+        return 2;
+    }
+    return 0;
+}

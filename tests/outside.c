@@ -1,0 +1,261 @@
+/* The outside test: generated recordings and calls, every answer compared with the model's.
+
+   outside [--judge COMMAND] [--calls COMMAND] [--count N] [--seed S] [--status] [--seconds T]
+           [--first] [--unshrunk]
+
+   A command is one string for the shell. Without --seed there are two passes, with the fixed
+   seed and with a fresh one. N is the share: N damaged recordings for each of the thirteen rules,
+   5 N sound ones and N/10 lists of 3,000 calls for each subject (twice as many for the bus and the
+   judge), in each pass; with the fixed seed also every code and every contest. With --status the
+   judging program's exit status is to be 0, 1 or 2 by its verdict; with --first the run ends at
+   the first disagreement; with --unshrunk it is told as it was found. */
+#define _DEFAULT_SOURCE 1
+#include <stdio.h>
+#include <stdlib.h>
+#include <string.h>
+#include <time.h>
+#include <unistd.h>
+#include "compare.h"
+
+enum { CALLS_A_LIST = 3000, FIXED_SEED = 19861023, MOST_REPORTS = 5, MOST_LINES = 30 };
+
+static struct {
+    const char *judge, *calls;
+    int count, statuses, seconds, first, unshrunk;
+} options = {.count = 50, .seconds = 60};
+static unsigned long passed, failed;
+static unsigned long broken_first[14], at_once, recordings;
+
+static void report(const struct subject_program *p, struct buffer *in, const char *what,
+                   unsigned long seed)
+{
+    failed++;
+    if (failed > MOST_LINES)
+        return;
+    printf("disagreement: %s, seed %lu\n", what, seed);
+    if (failed == MOST_LINES)
+        printf("more are counted and not told\n");
+    if (failed <= MOST_REPORTS) {
+        if (!options.unshrunk)
+            shrink(p, in);
+        if (disagree(p, in, stdout) < 0)
+            printf("  it does not come back: the program's answer is not always the same\n");
+    }
+    fflush(stdout);
+    if (options.first) {
+        printf("outside: %lu passed, %lu failed\n", passed, failed);
+        exit(1);
+    }
+}
+
+static struct feed some_feed(struct rng *g, size_t len)
+{
+    static const size_t sizes[] = {1, 7, 15, 16, 17, 48, 1000, 4095, 4096, 65535, 65537};
+    struct feed f = {BY_FILE, 0};
+    if (rng_chance(g, 70))
+        return f;
+    f.way = rng_chance(g, 50) ? BY_PIPE : BY_DRIPS;
+    f.piece = sizes[rng_below(g, 11)];
+    if (len > 4000 && f.piece < 48)
+        f.piece = 1000;
+    return f;
+}
+
+static void one_recording(struct rng *g, struct buffer *in, const char *what, unsigned long seed)
+{
+    struct subject_program p = {options.judge, RECORD, {BY_FILE, 0}, options.seconds,
+                                options.statuses};
+    p.feed = some_feed(g, in->len);
+    if (rng_chance(g, 10)) { /* a torn end */
+        uint8_t piece[15];
+        for (int i = 0; i < 15; i++)
+            piece[i] = (uint8_t)rng_next(g);
+        buffer_add(in, piece, 1 + rng_below(g, 15));
+    }
+    recordings++;
+    if (disagree(&p, in, NULL) < 0)
+        passed++;
+    else
+        report(&p, in, what, seed);
+}
+
+/* N damaged recordings for each rule; the model itself must name the rule that was meant. */
+static void damaged(struct rng *g, unsigned long seed)
+{
+    for (int rule = 1; rule <= 13; rule++)
+        for (int i = 0; i < options.count; i++) {
+            struct maker m;
+            char what[64], text[TEXT];
+            int named = 0;
+            maker_start(&m, g, 16);
+            uint32_t broken = damage(&m, rule);
+            judge_program(m.out.bytes, m.out.len, text);
+            const char *line = strstr(text, "breach rule ");
+            if (line != NULL)
+                named = atoi(line + 12);
+            if (named != rule) {
+                printf("the maker meant rule %d, the model names %d\n", rule, named);
+                failed++;
+            }
+            broken_first[rule]++;
+            at_once += (broken & (broken - 1)) != 0;
+            snprintf(what, sizeof what, "recording with rule %d broken first", rule);
+            one_recording(g, &m.out, what, seed);
+            buffer_free(&m.out);
+        }
+}
+
+static void sound(struct rng *g, unsigned long seed)
+{
+    for (int i = 0; i < 5 * options.count; i++) {
+        struct maker m;
+        size_t records = rng_below(g, rng_chance(g, 10) ? 3000 : 150);
+        if (i % 50 == 49)
+            records = 4000 + rng_below(g, 9000); /* over several reads */
+        maker_start(&m, g, 16);
+        if (rng_chance(g, 50))
+            traffic_bus(&m, records);
+        else
+            traffic_wild(&m, records);
+        one_recording(g, &m.out, "sound recording", seed);
+        buffer_free(&m.out);
+    }
+}
+
+/* Long recordings with something wrong near the places where reads of 4 and 64 KiB end. */
+static void long_damaged(struct rng *g, unsigned long seed)
+{
+    static const size_t edges[] = {255, 256, 257, 4095, 4096, 4097, 8192};
+    for (int i = 0; i < options.count / 5; i++) {
+        struct maker m;
+        struct record r;
+        unsigned spare;
+        maker_start(&m, g, 16);
+        traffic_bus(&m, edges[rng_below(g, 7)] - rng_below(g, 2));
+        for (int k = 0; k < 20; k++) {
+            wild_propose(&m, &r, &spare, 40);
+            if (maker_try(&m, &r, spare) != 0)
+                maker_add_raw(&m, &r, spare);
+        }
+        one_recording(g, &m.out, "long recording", seed);
+        buffer_free(&m.out);
+    }
+}
+
+static void lists(struct rng *g, unsigned long seed)
+{
+    int some = options.count / 10 > 0 ? options.count / 10 : 1;
+    for (int s = 0; s < SUBJECTS; s++) {
+        int rounds = s == EVERY_CODE ? seed == FIXED_SEED : s == BUS || s == JUDGE ? 2 * some : some;
+        for (int i = 0; i < rounds; i++) {
+            struct subject_program p = {options.calls, CALL, {BY_FILE, 0}, options.seconds, 0};
+            struct buffer in = {0};
+            char what[64];
+            make_calls(&in, g, (enum subject)s, CALLS_A_LIST);
+            if (rng_chance(g, 30)) {
+                p.feed.way = rng_chance(g, 50) ? BY_PIPE : BY_DRIPS;
+                p.feed.piece = in.len / 4000 + 1 + rng_below(g, 5000);
+            }
+            size_t calls = in.len / CALL;
+            if (rng_chance(g, 20)) /* a torn last call isn't answered */
+                buffer_add(&in, (const uint8_t[CALL]){9}, 1 + rng_below(g, CALL - 1));
+            snprintf(what, sizeof what, "calls on %s", subject_names[s]);
+            if (disagree(&p, &in, NULL) < 0)
+                passed += calls;
+            else
+                report(&p, &in, what, seed);
+            buffer_free(&in);
+        }
+    }
+}
+
+static void pass(unsigned long seed)
+{
+    struct rng g = {seed};
+    printf("seed %lu\n", seed);
+    fflush(stdout);
+    if (options.judge != NULL) {
+        damaged(&g, seed);
+        sound(&g, seed);
+        long_damaged(&g, seed);
+    }
+    if (options.calls != NULL)
+        lists(&g, seed);
+}
+
+static void summary(void)
+{
+    if (options.judge != NULL) {
+        printf("recordings %lu; rule broken first:", recordings);
+        for (int r = 1; r <= 13; r++)
+            printf(" %d:%lu", r, broken_first[r]);
+        printf("; more than one rule broken at once in %lu\n", at_once);
+    }
+    if (options.calls != NULL) {
+        printf("calls %lu, of which not settled by the paper %lu\n",
+               covered.calls + covered.skipped, covered.skipped);
+        printf("answers by operation and refusal:\n");
+        for (int op = 1; op < 23; op++) {
+            printf("  %2d: %lu", op, covered.by_op[op]);
+            for (int no = 1; no < 9; no++)
+                if (covered.op_refusal[op][no] > 0)
+                    printf("  refused %d: %lu", no, covered.op_refusal[op][no]);
+            printf("\n");
+        }
+        printf("judge calls by rule:");
+        for (int r = 0; r <= 13; r++)
+            printf(" %d:%lu", r, covered.rules[r]);
+        printf("\nnotes: none %lu short %lu extra %lu stray %lu; no operation: %lu\n",
+               covered.notes[0], covered.notes[1], covered.notes[2], covered.notes[3],
+               covered.refusals[255]);
+    }
+    printf("outside: %lu passed, %lu failed\n", passed, failed);
+}
+
+static void usage(void)
+{
+    fprintf(stderr, "outside [--judge COMMAND] [--calls COMMAND] [--count N] [--seed S] "
+                    "[--status] [--seconds T] [--first] [--unshrunk]\n");
+    exit(2);
+}
+
+int main(int argc, char **argv)
+{
+    unsigned long seed = 0;
+    int given = 0;
+    for (int i = 1; i < argc; i++) {
+        int *flag = strcmp(argv[i], "--status") == 0     ? &options.statuses
+                    : strcmp(argv[i], "--first") == 0    ? &options.first
+                    : strcmp(argv[i], "--unshrunk") == 0 ? &options.unshrunk
+                                                         : NULL;
+        if (flag != NULL) {
+            *flag = 1;
+            continue;
+        }
+        if (i + 1 >= argc)
+            usage();
+        if (strcmp(argv[i], "--judge") == 0)
+            options.judge = argv[++i];
+        else if (strcmp(argv[i], "--calls") == 0)
+            options.calls = argv[++i];
+        else if (strcmp(argv[i], "--count") == 0)
+            options.count = atoi(argv[++i]);
+        else if (strcmp(argv[i], "--seconds") == 0)
+            options.seconds = atoi(argv[++i]);
+        else if (strcmp(argv[i], "--seed") == 0) {
+            seed = strtoul(argv[++i], NULL, 0);
+            given = 1;
+        } else
+            usage();
+    }
+    if ((options.judge == NULL && options.calls == NULL) || options.count < 1)
+        usage();
+    if (given) {
+        pass(seed);
+    } else {
+        pass(FIXED_SEED);
+        pass((unsigned long)time(NULL) * 1000 + (unsigned long)getpid() % 1000);
+    }
+    summary();
+    return failed > 0;
+}

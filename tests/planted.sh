@@ -1,0 +1,64 @@
+#!/bin/sh
+# Plants the bugs of planted.txt, one at a time, in a copy of the model that stands in for the
+# programs, and counts those that the outside tests catch: tests/planted.sh [OUTDIR]
+# COUNT is the outside test's share (30), SHOW=1 shows what was found, made small, ONLY is a piece
+# of the description of those to be planted.
+here=$(cd "$(dirname "$0")" && pwd)
+out=${1:-$(mktemp -d)}
+count=${COUNT:-30}
+sh "$here/build.sh" "$out" || exit 2
+out=$(cd "$out" && pwd)
+"$out/outside" --judge "$out/modeljudge" --calls "$out/modelcalls" --count "$count" --seed 1 |
+    tail -n 1 | sed 's/^/without a bug: /'
+planted=0 caught=0
+
+plant() { # file, old, new: a copy of the file with the first old replaced, and the programs with it
+    rm -rf "$out/bug"
+    mkdir -p "$out/bug/obj"
+    cp "$out/obj"/*.o "$out/bug/obj"
+    OLD=$2 NEW=$3 awk '
+        !done && (at = index($0, ENVIRON["OLD"])) {
+            $0 = substr($0, 1, at - 1) ENVIRON["NEW"] substr($0, at + length(ENVIRON["OLD"]))
+            done = 1
+        }
+        { print }
+        END { exit !done }' "$here/$1" >"$out/bug/$1" ||
+        { echo "not found in $1: $2"; exit 2; }
+    cd "$out/bug/obj" || exit 2
+    ${CC:-cc} -O2 -std=c11 -w -I"$here" -c -o "${1%.c}.o" "../$1" || exit 2
+    for p in modelcalls modeljudge; do
+        ${CC:-cc} -o "../$p" $p.o record.o codes.o contest.o bus.o cache.o judging.o calls.o ||
+            exit 2
+    done
+}
+
+one() { # file, old, new, what
+    plant "$1" "$2" "$3"
+    planted=$((planted + 1))
+    by=
+    "$out/outside" --judge "$out/bug/modeljudge" --calls "$out/bug/modelcalls" --count "$count" \
+        --seed 1 --first $([ -z "$SHOW" ] && echo --unshrunk) >"$out/found" 2>&1 || by=outside
+    "$out/golden" --judge "$out/bug/modeljudge" --calls "$out/bug/modelcalls" >/dev/null 2>&1 ||
+        by="$by golden"
+    case $1 in modeljudge.c)
+        "$out/faults" --judge "$out/bug/modeljudge" --megabytes 1 >/dev/null 2>&1 ||
+            by="$by faults" ;;
+    esac
+    if [ -n "$by" ]; then
+        caught=$((caught + 1))
+        echo "caught ($(echo $by)): $4"
+        [ -n "$SHOW" ] && sed 's/^/    /' "$out/found"
+    else
+        echo "MISSED: $4"
+    fi
+}
+
+while IFS= read -r file; do
+    case $file in '#'* | '') continue ;; esac
+    IFS= read -r old
+    IFS= read -r new
+    IFS= read -r what
+    case $what in *"$ONLY"*) one "$file" "$old" "$new" "$what" ;; esac
+done <"$here/planted.txt"
+echo "planted: $caught of $planted caught"
+[ "$caught" = "$planted" ]

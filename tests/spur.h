@@ -1,0 +1,122 @@
+/* An independent model of document 01, used to test the programs from outside.
+   It is written from the document alone and shares nothing with the library. */
+#ifndef SPUR_H
+#define SPUR_H
+
+#include <stddef.h>
+#include <stdint.h>
+
+enum { SLOTS = 16, WATCHDOG = 256, RECORD = 16, NOBODY = 255, NONE = 255 };
+#define MOST_RECORDS ((uint64_t)1 << 30)
+
+/* --- records (01, "The line record") --- */
+struct record {
+    uint32_t stamp;
+    uint8_t reset, rqst, arb, start, ack, tm1, tm0, sp, spv;
+    uint32_t ad;
+    uint8_t vtm1, vtm0, vack, vsack;
+    uint64_t vad;
+};
+int record_pack(const struct record *r, uint8_t *buf, size_t len, size_t at);
+int record_unpack(struct record *r, const uint8_t *buf, size_t len, size_t at);
+unsigned record_read(struct record *r, const uint8_t *bytes); /* gives the spare bits */
+void record_write(const struct record *r, uint8_t *bytes);
+int record_inactive(const struct record *r);
+
+/* --- codes (01, "START codes") --- */
+enum unit { BYTE, HALF, WORD, BLOCK2, BLOCK4, BLOCK8, BLOCK16, UNITS };
+struct operation {
+    uint8_t write, unit;
+    uint32_t address;
+};
+int code_decode(struct operation *op, int tm1, int tm0, uint32_t ad);
+int code_encode(const struct operation *op, uint8_t *tm1, uint8_t *tm0, uint32_t *ad);
+int code_words(int unit);
+uint32_t code_size(int unit); /* bytes */
+int code_status(int tm1, int tm0);
+int code_parity(uint32_t ad);
+enum { AGAIN, TIMEOUT, ERROR, SUCCESS };
+
+/* --- the contest (01, "The contest") --- */
+unsigned contest_lines(unsigned set);
+int contest_winner(unsigned set); /* -1 for none */
+
+/* --- one bus cycle (01, "One bus cycle") --- */
+struct bus {
+    uint16_t wave;
+    uint8_t settling, turn, owner, limit; /* owner NOBODY for none */
+    uint8_t open, owed, age;
+};
+struct node {
+    uint8_t wants, holds, words;
+};
+enum { NOTHING, STROBE, FINISH };
+enum { NOTE_NONE, NOTE_SHORT, NOTE_EXTRA, NOTE_STRAY };
+struct answer {
+    uint8_t rqst, start, ack, starter, status, note;
+};
+int bus_fresh(struct bus *b, unsigned limit);
+int bus_bounds(const struct bus *b); /* 1 if within */
+int bus_cycle(struct bus *b, int reset, int event, int status, const struct node *nodes,
+              size_t count, struct answer *a);
+
+/* --- cache blocks (01, "Cache blocks") --- */
+struct cache {
+    uint8_t *states;
+    uint32_t *copies, *memory;
+    size_t nstates, ncopies, nmemory;
+};
+int cache_read(struct cache *c, unsigned slot, unsigned block, uint32_t *value);
+int cache_write(struct cache *c, unsigned slot, unsigned block, uint32_t value);
+int cache_evict(struct cache *c, unsigned slot, unsigned block);
+int cache_coherent(const struct cache *c, unsigned block);
+
+/* --- the judge (01, "The judge") --- */
+struct judge {
+    uint8_t limit;
+    uint8_t has_stamp, rqst1, rqst2; /* RQST in the last record's cycle, and one before that */
+    uint32_t stamp;
+    uint8_t started;         /* a wave's START since the last reset */
+    uint8_t turn, arb, since; /* the wave's STARTs at its last ARB, 0 for none; cycles since */
+    uint8_t open, words, strobes;
+    uint16_t age;
+};
+struct tally {
+    uint32_t records;
+    uint64_t span;
+    uint32_t starts, acks, aborted;
+};
+struct verdict {
+    int rule; /* 0 for none */
+    uint32_t record;
+};
+int judge_fresh(struct judge *j, unsigned limit);
+int judge_bounds(const struct judge *j, const struct tally *t);
+uint32_t judge_broken(const struct judge *j, const struct record *r, unsigned spare);
+int judge_lowest(uint32_t broken); /* 0 for none */
+void judge_take(struct judge *j, struct tally *t, const struct record *r);
+int judge_one(struct judge *j, struct tally *t, const uint8_t *bytes);
+int judge_recording(struct judge *j, struct tally *t, const uint8_t *bytes, size_t len,
+                    struct verdict *v);
+/* What the judging program prints for a whole input; TEXT is enough room. */
+enum { TEXT = 256 };
+int judge_program(const uint8_t *bytes, size_t len, char *text); /* gives the exit status */
+void judge_text(const struct tally *t, int open, int rule, int refusal, char *text);
+
+/* --- the driver program's calls --- */
+enum { CALL = 64 };
+struct driver {
+    struct bus bus;
+    struct judge judge;
+    struct tally tally;
+    uint8_t states[65 * SLOTS];
+    uint32_t copies[65 * SLOTS], memory[65];
+    size_t nstates, ncopies, nmemory;
+    /* Raw settings of the judge whose meaning the paper leaves to the build. */
+    int loose_turn, loose_age, unknown;
+};
+void driver_start(struct driver *d);
+/* Gives 1 if the answer is settled by the paper, 0 if it isn't to be compared. */
+int driver_call(struct driver *d, const uint8_t *call, uint8_t *answer);
+
+#endif
