@@ -3,4 +3,3 @@ pub mod Modes
 pub mod OwedLaws
 pub mod BothWays
 pub mod LosesNothing
-pub mod Examples

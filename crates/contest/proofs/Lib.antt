@@ -4,4 +4,3 @@ pub mod WalkLaws
 pub mod Settling
 pub mod Winners
 pub mod Arbitration
-pub mod Examples

@@ -20,7 +20,7 @@ use Rattle.cycle.specs.declared.Transfer.{Transfer}
 use Rattle.cycle.specs.declared.Transfer.the-variants.{Idle, Open}
 use Rattle.cycle.specs.declared.Note.{Note}
 use Rattle.cycle.specs.declared.Note.the-variants.{Clear, Extra}
-use Rattle.cycle.specs.Numbers.{watchdog}
+use Rattle.basics.specs.Numbers.{watchdog}
 use Rattle.cycle.specs.Bounds.{lawfulWord, lawfulBelow, lawfulWords}
 use Rattle.cycle.specs.Arbitration.{attends}
 use Rattle.cycle.specs.Transfers.{expires, opened, aged, timedOut, struck, goingOn, progressOf}

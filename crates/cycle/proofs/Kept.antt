@@ -18,7 +18,8 @@ use Rattle.cycle.specs.declared.Owner.the-variants.{Nobody, Slot}
 use Rattle.cycle.specs.declared.Transfer.{Transfer}
 use Rattle.cycle.specs.declared.Transfer.the-variants.{Idle, Open}
 use Rattle.cycle.specs.State.{fresh}
-use Rattle.cycle.specs.Bounds.{lawfulLimit, lawfulCounts, lawfulOwner, lawfulTransfer, lawfulRest, inBounds, lawfulWords}
+use Rattle.basics.specs.Numbers.{lawfulLimit}
+use Rattle.cycle.specs.Bounds.{lawfulCounts, lawfulOwner, lawfulTransfer, lawfulRest, inBounds, lawfulWords}
 use Rattle.cycle.specs.Cycle.{stepOf}
 use Rattle.cycle.specs.Nodes.{setsOf, stepTableOf}
 use Rattle.cycle.specs.Runs.{Input, cycleIn, next}
@@ -55,7 +56,7 @@ rest-in wave settling turn e z =
     go false q x = absurd (false≢true q)
 
 sound-of : (b : Bus) → Fits b → inBounds b ≡ true → Sound b
-unfolding inBounds lawfulCounts lawfulLimit
+unfolding inBounds lawfulCounts
 sound-of b f e =
     let x = and-both _ (lawfulRest (b .wave) (b .settling) (b .turn)) e in
     let y = and-both _ (lawfulTransfer (b .transfer)) (x .0) in

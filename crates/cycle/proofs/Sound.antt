@@ -16,7 +16,8 @@ use Rattle.cycle.specs.declared.Owner.the-variants.{Nobody, Slot}
 use Rattle.cycle.specs.declared.Transfer.{Transfer}
 use Rattle.cycle.specs.declared.Transfer.the-variants.{Idle, Open}
 use Rattle.cycle.specs.State.{fresh}
-use Rattle.cycle.specs.Bounds.{lawfulLimit, lawfulCounts, lawfulOwner, lawfulTransfer, lawfulRest, inBounds}
+use Rattle.basics.specs.Numbers.{lawfulLimit}
+use Rattle.cycle.specs.Bounds.{lawfulCounts, lawfulOwner, lawfulTransfer, lawfulRest, inBounds}
 use Rattle.cycle.specs.Arbitration.{settledAt, formed, parked, leaves}
 use Rattle.cycle.specs.Cycle.{stateBy, movedBy, cycleBy, cycleOf}
 use Rattle.cycle.specs.Runs.{Input, wantsIn, cycleIn, next, after}
@@ -158,7 +159,6 @@ rest-lawful b s =
     (λ e. rw e)
 
 pub limit-lawful : (limit : ℕ) → 1 ≤ limit → limit ≤ 16 → lawfulLimit limit ≡ true
-unfolding lawfulLimit
 limit-lawful limit h k = rw (le-leb 1 limit h, le-leb limit 16 k)
 
 pub bounds-lawful : (b : Bus) → Sound b → inBounds b ≡ true

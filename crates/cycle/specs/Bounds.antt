@@ -15,12 +15,8 @@ use Rattle.cycle.specs.declared.Transfer.{Transfer}
 use Rattle.cycle.specs.declared.Transfer.the-variants.{Idle, Open}
 use Rattle.cycle.specs.declared.Fresh.{Fresh}
 use Rattle.cycle.specs.declared.Fresh.the-variants.{Made, UnlawfulLimit}
-use Rattle.cycle.specs.Numbers.{slotCount, limitMost}
+use Rattle.basics.specs.Numbers.{slotCount, lawfulLimit}
 use Rattle.cycle.specs.State.{fresh}
-
--- "Hold limit 1 to 16"
-unfoldable pub lawfulLimit : ℕ → Bool
-lawfulLimit limit = leb 1 limit && leb limit limitMost
 
 -- "settling count 0 to 2, starts in this turn (below the limit) .. hold limit"
 unfoldable pub lawfulCounts : ℕ → ℕ → ℕ → Bool

@@ -1,4 +1,3 @@
-pub mod Numbers
 pub mod State
 pub mod Bounds
 pub mod Arbitration

@@ -19,7 +19,7 @@ use Rattle.cycle.specs.declared.Event.the-variants.{Nothing, Strobe, Fin
 use Rattle.cycle.specs.declared.Note.{Note}
 use Rattle.cycle.specs.declared.Note.the-variants.{Clear, Short, Extra, Stray}
 use Rattle.cycle.specs.declared.Ending.the-variants.{Unended, Ended}
-use Rattle.cycle.specs.Numbers.{watchdog}
+use Rattle.basics.specs.Numbers.{watchdog}
 use Rattle.cycle.specs.Arbitration.{attends}
 
 -- "A transfer open before ages by 1"

@@ -5,4 +5,3 @@ pub mod Widths
 pub mod Packing
 pub mod Unpacking
 pub mod RoundTrip
-pub mod Examples

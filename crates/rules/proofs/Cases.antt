@@ -4,7 +4,7 @@ use Rattle.basics.specs.Lines.{bit, active, activeBelow}
 use Rattle.record.specs.Layout.{packed, fieldsIn, recordIn, spareIn}
 use Rattle.codes.specs.Parity.{parityOf}
 use Rattle.codes.specs.Start.{blockOf, unitOf}
-use Rattle.rules.specs.Rules.{wordsOf}
+use Rattle.codes.specs.Owed.{wordsOf}
 use Rattle.rules.specs.State.{diffOf, judgeOf}
 use Rattle.rules.specs.Bounds.{judgeBounds, tallyBounds}
 use Rattle.rules.specs.Run.{ruleOf, stepOf, nextOf}

@@ -8,15 +8,14 @@ use lib.Dec.{ltb, eqb}
 use borrow.Author.Tests.{ltb-true, lt-ltb, le-ltb, leb-true, le-leb, eqb-true, eq-eqb}
 use Rattle.basics.specs.Lines.{one}
 use Rattle.basics.proofs.Bools.{choice, and-both}
-use Rattle.codes.specs.Start.{unitOf, meaning, decodeOf}
-use Rattle.codes.specs.Units.{wordsIn}
-use Rattle.codes.specs.declared.Size.{Size}
-use Rattle.codes.specs.declared.Size.the-variants.{Is, NoMeaning}
-use Rattle.codes.specs.declared.Unit.{Unit as Moved}
-use Rattle.codes.specs.declared.Unit.the-variants.{Byte, Halfword, Word, Two, Four, Eight, Sixteen}
+use Rattle.codes.specs.Start.{meaning, decodeOf}
 use Rattle.rules.specs.declared.Transfer.{Transfer}
 use Rattle.rules.specs.declared.Transfer.the-variants.{Idle, Open}
-use Rattle.rules.specs.Rules.{watchdog, implies, wordsOf, sizeWords, strobe, rule4, rule5, rule7, rule12, rule13, rule13a, rule13b}
+use Rattle.basics.specs.Numbers.{watchdog}
+use Rattle.basics.specs.Order.{implies}
+use Rattle.codes.specs.Owed.{wordsOf}
+use Rattle.codes.proofs.OwedLaws.{owed-unit, accepted-owed, some-accepted}
+use Rattle.rules.specs.Rules.{strobe, rule4, rule5, rule7, rule12, rule13, rule13a, rule13b}
 use Rattle.rules.specs.State.{isOpen, openWords, openStrobes, openAge, agedOf, transferOf}
 use Rattle.rules.specs.Bounds.{SoundTransfer}
 use Rattle.rules.specs.Recording.{Lines, gap, cycle, count, Opened, wordsAt, strobeOf}
@@ -25,31 +24,14 @@ use Rattle.rules.proofs.Laws.{implied}
 use Rattle.rules.proofs.Places.{below, same-place, more, less, alone, count-none, clash, and-pair, holds, itself, off-iff, and-iff, both-imply-iff}
 
 -- ---- codes
-words-more : (u : Moved) → 0 < wordsIn u
-words-more Byte = omega arith
-words-more Halfword = omega arith
-words-more Word = omega arith
-words-more Two = omega arith
-words-more Four = omega arith
-words-more Eight = omega arith
-words-more Sixteen = omega arith
-
 -- a code has words exactly if it has a meaning
 pub meaning-exact : (tm1 tm0 : Bool) (ad : ℕ) → (ltb 0 (wordsOf tm0 ad) ≡ true) ↔ (decodeOf tm1 tm0 ad .number ≡ 0)
-unfolding wordsOf decodeOf
-meaning-exact tm1 tm0 ad = go (unitOf tm0 ad)
-  where
-    go : (s : Size) → (ltb 0 (sizeWords s) ≡ true) ↔ (meaning tm1 ad s .number ≡ 0)
-    go (Is u) = (λ _. refl, λ _. lt-ltb 0 (wordsIn u) (words-more u))
-    go NoMeaning = (λ e. absurd (false≢true e), λ (e : _≡_ {A = ℕ} 4 0). absurd (omega arith))
+meaning-exact tm1 tm0 ad =
+    (λ e. some-accepted tm1 tm0 ad (ltb-true _ _ e), λ e. lt-ltb _ _ (accepted-owed tm1 tm0 ad e))
 
 words-exact : (r : Lines) (i : ℕ) → decodeOf (r i .tm1) (r i .tm0) (r i .ad) .number ≡ 0 → wordsOf (r i .tm0) (r i .ad) ≡ wordsAt r i
-unfolding wordsOf decodeOf wordsAt
-words-exact r i = go (unitOf (r i .tm0) (r i .ad))
-  where
-    go : (s : Size) → meaning (r i .tm1) (r i .ad) s .number ≡ 0 → sizeWords s ≡ wordsIn (meaning (r i .tm1) (r i .ad) s .value .unit)
-    go (Is u) e = refl
-    go NoMeaning e = absurd (let z : _≡_ {A = ℕ} 4 0 = e in omega arith)
+unfolding wordsAt
+words-exact r i = owed-unit (r i .tm1) (r i .tm0) (r i .ad)
 
 -- ---- the open transfer
 opened-next : (r : Lines) (i k : ℕ) → Opened r i k → r i .reset ≡ false → r i .start ≡ false → r i .ack ≡ false → Opened r (suc i) k

@@ -15,20 +15,19 @@ use Rattle.basics.specs.Order.{unless}
 use Rattle.basics.proofs.Bools.{choice, cond-true, cond-false, and-both, both-and}
 use Rattle.record.specs.declared.Record.{Record}
 use Rattle.record.specs.Layout.{recordIn, fieldsIn}
-use Rattle.codes.specs.Start.{unitOf}
-use Rattle.codes.specs.declared.Size.{Size}
-use Rattle.codes.specs.declared.Size.the-variants.{Is, NoMeaning}
-use Rattle.codes.specs.declared.Unit.{Unit as Moved}
-use Rattle.codes.specs.declared.Unit.the-variants.{Byte, Halfword, Word, Two, Four, Eight, Sixteen}
 use Rattle.rules.specs.declared.Judge.{Judge}
 use Rattle.rules.specs.declared.Wave.{Wave}
 use Rattle.rules.specs.declared.Tally.{Tally}
 use Rattle.rules.specs.declared.Progress.{Progress}
 use Rattle.rules.specs.declared.Transfer.{Transfer}
 use Rattle.rules.specs.declared.Transfer.the-variants.{Idle, Open}
-use Rattle.rules.specs.Rules.{watchdog, implies, difference, sizeWords, wordsOf, strobe, rule1, rule2, rule7, rule11, rule12, rule13, rule13a, rule13b}
+use Rattle.basics.specs.Numbers.{watchdog, lawfulLimit}
+use Rattle.basics.specs.Order.{implies}
+use Rattle.codes.specs.Owed.{wordsOf}
+use Rattle.codes.proofs.OwedLaws.{owed-most}
+use Rattle.rules.specs.Rules.{difference, strobe, rule1, rule2, rule7, rule11, rule12, rule13, rule13a, rule13b}
 use Rattle.rules.specs.State.{isOpen, openWords, openStrobes, openAge, agedOf, transferOf, askedOf, waveOf, freshJudge, diffOf, resetOf, movedOf, judgeOf, tallyOf}
-use Rattle.rules.specs.Bounds.{limitAllowed, transferBounds, judgeBounds, tallyBounds, SoundTransfer, SoundJudge, SoundTally}
+use Rattle.rules.specs.Bounds.{transferBounds, judgeBounds, tallyBounds, SoundTransfer, SoundJudge, SoundTally}
 use Rattle.rules.specs.Run.{Taken, takenIn, recordsIn, lowest, laterRules, ruleOf, from, stepOf, nextOf, runOf}
 use Rattle.rules.specs.Verdict.{mostRecords, refusalOf, refusedBy, outcomeIn, outcomeOf}
 
@@ -150,9 +149,9 @@ sound-transfer (Open w s a) h =
 pub judge-sound : (j : Judge) → judgeBounds j ≡ true → SoundJudge j
 unfolding judgeBounds
 judge-sound j e =
-    let p = and-both (limitAllowed (j .limit) && transferBounds (j .transfer) && leb (j .wave .turn) (j .limit)) (leb (j .wave .arb) 15) e in
-    let q = and-both (limitAllowed (j .limit) && transferBounds (j .transfer)) (leb (j .wave .turn) (j .limit)) (p .0) in
-    let r = and-both (limitAllowed (j .limit)) (transferBounds (j .transfer)) (q .0) in
+    let p = and-both (lawfulLimit (j .limit) && transferBounds (j .transfer) && leb (j .wave .turn) (j .limit)) (leb (j .wave .arb) 15) e in
+    let q = and-both (lawfulLimit (j .limit) && transferBounds (j .transfer)) (leb (j .wave .turn) (j .limit)) (p .0) in
+    let r = and-both (lawfulLimit (j .limit)) (transferBounds (j .transfer)) (q .0) in
     let u = and-both (leb 1 (j .limit)) (leb (j .limit) 16) (r .0) in
     record {
       low = leb-true 1 (j .limit) (u .0);
@@ -194,19 +193,6 @@ sound-tally t h =
     (le-leb (t .aborted) (t .records) (h .aborted))
 
 -- ---- the bounds are kept
-words-le : (u : Moved) → sizeWords (Is u) ≤ 16
-words-le Byte = omega arith
-words-le Halfword = omega arith
-words-le Word = omega arith
-words-le Two = omega arith
-words-le Four = omega arith
-words-le Eight = omega arith
-words-le Sixteen = omega arith
-
-size-le : (s : Size) → sizeWords s ≤ 16
-size-le (Is u) = words-le u
-size-le NoMeaning = omega arith
-
 aged-sound : (t : Transfer) (start ack tm1 tm0 : Bool) (d : ℕ) → SoundTransfer t → rule12 (isOpen t) (openAge t) d ≡ true → rule13 (isOpen t) (openWords t) (openStrobes t) start ack tm1 tm0 ≡ true → SoundTransfer (agedOf t start ack tm0 d)
 aged-sound Idle start ack tm1 tm0 d h r12 r13 = tt
 aged-sound (Open w s a) start ack tm1 tm0 d h r12 r13 =
@@ -223,12 +209,11 @@ aged-sound (Open w s a) start ack tm1 tm0 d h r12 r13 =
 
 transfer-kept : (t : Transfer) (start ack tm1 tm0 : Bool) (ad d : ℕ) → SoundTransfer t → rule7 start ack (wordsOf tm0 ad) ≡ true → rule12 (isOpen t) (openAge t) d ≡ true → rule13 (isOpen t) (openWords t) (openStrobes t) start ack tm1 tm0 ≡ true
     → SoundTransfer (transferOf t start ack tm0 (wordsOf tm0 ad) d)
-unfolding wordsOf
 transfer-kept t start ack tm1 tm0 ad d h r7 r12 r13 =
     choice SoundTransfer ack (λ _. tt) (λ na.
     choice SoundTransfer start (λ st.
     let some = ltb-true 0 (wordsOf tm0 ad) (implied (start && not ack) _ r7 (both-and start (not ack) st (ap not na))) in
-    record { low = some; high = size-le (unitOf tm0 ad); few = some; young = omega arith })
+    record { low = some; high = owed-most tm0 ad; few = some; young = omega arith })
     (λ _. aged-sound t start ack tm1 tm0 d h r12 r13))
 
 turn-kept : (limit : ℕ) (w : Wave) (rqst start : Bool) (arb d : ℕ) → 1 ≤ limit → w .turn ≤ limit → rule11 limit start (askedOf w d) arb (w .arb) (w .turn) ≡ true → waveOf w rqst start arb d .turn ≤ limit

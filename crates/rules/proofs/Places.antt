@@ -8,7 +8,7 @@ use lib.Dec.{ltb, leb, eqb}
 use borrow.Author.Tests.{ltb-true, ltb-false, leb-true, le-leb, eqb-true, eq-eqb}
 use Rattle.basics.specs.Lines.{one}
 use Rattle.basics.proofs.Bools.{and-both, both-and, by-test}
-use Rattle.rules.specs.Rules.{implies}
+use Rattle.basics.specs.Order.{implies}
 use Rattle.rules.specs.Recording.{count}
 
 -- ---- places

@@ -9,7 +9,8 @@ use borrow.Author.Tests.{ltb-true, ltb-false, lt-ltb, le-ltb, leb-true, le-leb, 
 use Rattle.basics.specs.Lines.{one}
 use Rattle.basics.proofs.Bools.{cond-true, cond-false, and-both, by-test, not-true as refuted}
 use Rattle.rules.specs.declared.Wave.{Wave}
-use Rattle.rules.specs.Rules.{implies, rule8, rule8a, rule8b, rule8c, rule9, rule10, rule11}
+use Rattle.basics.specs.Order.{implies}
+use Rattle.rules.specs.Rules.{rule8, rule8a, rule8b, rule8c, rule9, rule10, rule11}
 use Rattle.rules.specs.State.{askedOf, twiceOf, capped, waveOf, freshWave}
 use Rattle.rules.specs.Recording.{Lines, gap, cycle, count, NoReset, Asked, Began, LastStart, startWith, Owned}
 use Rattle.rules.specs.Thirteen.{Rule8, Rule8a, Rule8b, Rule8c, Rule9, Rule10, Rule11}

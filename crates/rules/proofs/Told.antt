@@ -19,7 +19,8 @@ use Rattle.rules.specs.declared.Verdict.{Verdict}
 use Rattle.rules.specs.declared.Verdict.the-variants.{Conforming}
 use Rattle.rules.specs.declared.Outcome.{Outcome}
 use Rattle.rules.specs.State.{freshJudge, zeroTally, diffOf}
-use Rattle.rules.specs.Bounds.{limitAllowed, SoundJudge, SoundTally}
+use Rattle.basics.specs.Numbers.{lawfulLimit}
+use Rattle.rules.specs.Bounds.{SoundJudge, SoundTally}
 use Rattle.rules.specs.Run.{Taken, takenIn, recordsIn, ruleOf, from, nextOf, runOf}
 use Rattle.rules.specs.Verdict.{mostRecords, freshOf, refusalOf, refusedBy, verdictOf, outcomeIn, outcomeOf}
 use Rattle.rules.specs.Recording.{recordingIn}
@@ -51,7 +52,7 @@ open-of p e =
 fresh-is : (limit : ℕ) (j : Judge) → freshOf limit ≡ accepted j → (1 ≤ limit) × (limit ≤ 16) × (j ≡ freshJudge limit)
 unfolding freshOf
 fresh-is limit j e =
-    by-test (limitAllowed limit)
+    by-test (lawfulLimit limit)
     (λ a. let z = and-both (leb 1 limit) (leb limit 16) a in
     (leb-true 1 limit (z .0), leb-true limit 16 (z .1), sym (ap (λ (x : Answer Judge). x .value) (sym (cond-true _ _ a) ∙ e))))
     (λ a. let z : _≡_ {A = ℕ} 3 0 = ap (λ (x : Answer Judge). x .number) (sym (cond-false _ _ a) ∙ e) in absurd (omega arith))

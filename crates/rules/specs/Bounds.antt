@@ -7,19 +7,15 @@ use Rattle.rules.specs.declared.Judge.{Judge}
 use Rattle.rules.specs.declared.Tally.{Tally}
 use Rattle.rules.specs.declared.Transfer.{Transfer}
 use Rattle.rules.specs.declared.Transfer.the-variants.{Idle, Open}
-use Rattle.rules.specs.Rules.{watchdog}
+use Rattle.basics.specs.Numbers.{watchdog, lawfulLimit}
 
 -- ---- as tests
--- "Hold limit 1 to 16 STARTs a turn."
-abbrev pub limitAllowed : ℕ → Bool
-limitAllowed limit = leb 1 limit && leb limit 16
-
 abbrev pub transferBounds : Transfer → Bool
 transferBounds Idle = true
 transferBounds (Open words strobes age) = leb 1 words && leb words 16 && ltb strobes words && leb age watchdog
 
 unfoldable pub judgeBounds : Judge → Bool
-judgeBounds j = limitAllowed (j .limit) && transferBounds (j .transfer) && leb (j .wave .turn) (j .limit) && leb (j .wave .arb) 15
+judgeBounds j = lawfulLimit (j .limit) && transferBounds (j .transfer) && leb (j .wave .turn) (j .limit) && leb (j .wave .arb) 15
 
 unfoldable pub tallyBounds : Tally → Bool
 tallyBounds t =

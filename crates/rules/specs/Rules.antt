@@ -3,31 +3,12 @@
 use Prim.Native.Nat.{ℕ, _+_, _-_, _%_, _^_}
 use mathlib.Core.Bool.{Bool, not, _&&_, _||_, Bool·beq}
 use lib.Dec.{leb, ltb, eqb}
-use Rattle.codes.specs.Units.{wordsIn}
-use Rattle.codes.specs.Start.{unitOf}
-use Rattle.codes.specs.declared.Size.{Size}
-use Rattle.codes.specs.declared.Size.the-variants.{Is, NoMeaning}
-
--- "Watchdog 256 cycles."
-abbrev pub watchdog : ℕ
-watchdog = 256
-
--- where `a` holds, `b` has to
-abbrev pub implies : Bool → Bool → Bool
-implies a b = not a || b
+use Rattle.basics.specs.Numbers.{watchdog}
+use Rattle.basics.specs.Order.{implies}
 
 -- "The stamp's difference to the last one, modulo 2^32"
 abbrev pub difference : ℕ → ℕ → ℕ
 difference last stamp = (stamp + (2 ^ 32 - last)) % 2 ^ 32
-
--- the words of a unit; a code with no meaning has none
-abbrev pub sizeWords : Size → ℕ
-sizeWords (Is u) = wordsIn u
-sizeWords NoMeaning = 0
-
--- the words that a START without ACK asks for by TM0 and AD
-unfoldable pub wordsOf : Bool → ℕ → ℕ
-wordsOf tm0 ad = sizeWords (unitOf tm0 ad)
 
 -- "TM0 with neither START nor ACK, in an open block transfer, is a strobe": `words` are the open transfer's, and a block has more than one
 abbrev pub strobe : ℕ → Bool → Bool → Bool → Bool

@@ -8,11 +8,12 @@ use lib.Dec.{eqb}
 use Rattle.basics.specs.Order.{unless}
 use Rattle.record.specs.declared.Record.{Record}
 use Rattle.record.specs.Layout.{recordIn, spareIn}
+use Rattle.codes.specs.Owed.{wordsOf}
 use Rattle.codes.specs.Parity.{parityOf}
 use Rattle.rules.specs.declared.Judge.{Judge}
 use Rattle.rules.specs.declared.Tally.{Tally}
 use Rattle.rules.specs.declared.Progress.{Progress}
-use Rattle.rules.specs.Rules.{wordsOf, rule1, rule2, rule3, rule4, rule5, rule6, rule7, rule8, rule9, rule10, rule11, rule12, rule13}
+use Rattle.rules.specs.Rules.{rule1, rule2, rule3, rule4, rule5, rule6, rule7, rule8, rule9, rule10, rule11, rule12, rule13}
 use Rattle.rules.specs.State.{isOpen, openWords, openStrobes, openAge, askedOf, twiceOf, diffOf, judgeOf, tallyOf}
 
 -- a record as sixteen bytes have it: its lines and its spare bits

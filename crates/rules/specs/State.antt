@@ -3,13 +3,14 @@ use Prim.Native.Nat.{ℕ, _+_}
 use mathlib.Core.Bool.{Bool, true, false, not, cond, _&&_, _||_}
 use lib.Dec.{ltb, eqb}
 use Rattle.basics.specs.Lines.{one}
+use Rattle.codes.specs.Owed.{wordsOf}
 use Rattle.record.specs.declared.Record.{Record}
 use Rattle.rules.specs.declared.Judge.{Judge}
 use Rattle.rules.specs.declared.Wave.{Wave}
 use Rattle.rules.specs.declared.Tally.{Tally}
 use Rattle.rules.specs.declared.Transfer.{Transfer}
 use Rattle.rules.specs.declared.Transfer.the-variants.{Idle, Open}
-use Rattle.rules.specs.Rules.{difference, wordsOf, strobe}
+use Rattle.rules.specs.Rules.{difference, strobe}
 
 -- ---- the transfer
 -- a transfer is open

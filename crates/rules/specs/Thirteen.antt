@@ -6,7 +6,7 @@ use mathlib.Core.Path.{_≡_}
 use mathlib.Core.Logic.{_⊎_}
 use Rattle.codes.specs.Start.{decodeOf}
 use Rattle.codes.specs.Parity.{parityOf}
-use Rattle.rules.specs.Rules.{watchdog}
+use Rattle.basics.specs.Numbers.{watchdog}
 use Rattle.rules.specs.Recording.{Lines, Recording, gap, cycle, count, Opened, wordsAt, strobeOf, Asked, Began, LastStart, startWith, Owned}
 
 -- 1. "Spare bits are zero."

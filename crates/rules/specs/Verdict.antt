@@ -4,6 +4,7 @@ use mathlib.Core.Bool.{Bool, true, false, cond, _&&_}
 use mathlib.Core.List.{List}
 use lib.ListN.{length}
 use lib.Dec.{eqb, leb}
+use Rattle.basics.specs.Numbers.{lawfulLimit}
 use Rattle.basics.specs.Order.{unless}
 use Rattle.basics.specs.Answers.{Answer, accepted, refused}
 use Rattle.rules.specs.declared.Judge.{Judge}
@@ -16,7 +17,7 @@ use Rattle.rules.specs.declared.Judged.{Judged}
 use Rattle.rules.specs.declared.Outcome.{Outcome}
 use Rattle.rules.specs.declared.Fresh.{Fresh}
 use Rattle.rules.specs.declared.Fresh.the-variants.{Ready, BadLimit}
-use Rattle.rules.specs.Bounds.{limitAllowed, judgeBounds, tallyBounds}
+use Rattle.rules.specs.Bounds.{judgeBounds, tallyBounds}
 use Rattle.rules.specs.State.{freshJudge}
 use Rattle.rules.specs.Run.{from, runOf, recordsIn}
 
@@ -34,7 +35,7 @@ noJudge =
 
 -- refusal 3: "hold limit not 1 to 16"
 unfoldable pub freshOf : ℕ → Answer Judge
-freshOf limit = cond (limitAllowed limit) (accepted (freshJudge limit)) (refused 3 noJudge)
+freshOf limit = cond (lawfulLimit limit) (accepted (freshJudge limit)) (refused 3 noJudge)
 
 -- document 01's number and values for each answer of the constructor
 abbrev pub freshAnswer : Fresh → Answer Judge

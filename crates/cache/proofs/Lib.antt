@@ -1,0 +1,11 @@
+pub mod States
+pub mod Answers
+pub mod Placed
+pub mod Loops
+pub mod Coherence
+pub mod Refusals
+pub mod Laws
+pub mod Operations
+pub mod Kept
+pub mod ReadsGive
+pub mod Unchanged
