@@ -12,7 +12,7 @@ settle-requires c κs = search needs
 
 returns : tie.Need-returns
 unfolding parked
-returns c = cc
+returns c = rw (c .settle .ensures, c .before .without .ensures)
 
 pub park-spec : {M : Type 1} → statement M
 park-spec = tie.close (tie.spec without-requires settle-requires returns)

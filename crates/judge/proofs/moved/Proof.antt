@@ -1,0 +1,16 @@
+-- `judge::moved` meets its contract. Assumes nothing.
+use borrow.Author.Needs.{needs}
+use Rattle.judge.proofs.moved.Statement.{statement}
+use Rattle.judge.proofs.moved.Tie as tie
+
+next-transfer-requires : tie.Need-next-transfer-requires
+next-transfer-requires c κs = search needs
+
+next-wave-requires : tie.Need-next-wave-requires
+next-wave-requires c κs = search needs
+
+returns : tie.Need-returns
+returns c = cc
+
+pub moved-spec : {M : Type 1} → statement M
+moved-spec = tie.close (tie.spec next-transfer-requires next-wave-requires returns)

@@ -1,0 +1,53 @@
+-- `judge::next_wave` meets its contract. Assumes nothing.
+use borrow.Author.Needs.{needs}
+use Rattle.judge.proofs.next_wave.Statement.{statement}
+use Rattle.judge.proofs.next_wave.Tie as tie
+
+asked-requires : tie.Need-asked-requires
+asked-requires c κs = search needs
+
+next-since-requires : tie.Need-next-since-requires
+next-since-requires c κs = search needs
+
+pick-requires : tie.Need-pick-requires
+pick-requires c κs = search needs
+
+pick-requires-2 : tie.Need-pick-requires-2
+pick-requires-2 c κs = search needs
+
+add-pick : tie.Need-add-pick
+add-pick c = search needs
+
+pick-requires-3 : tie.Need-pick-requires-3
+pick-requires-3 c κs = search needs
+
+pick-requires-4 : tie.Need-pick-requires-4
+pick-requires-4 c κs = search needs
+
+pick-requires-5 : tie.Need-pick-requires-5
+pick-requires-5 c κs = search needs
+
+pick-requires-6 : tie.Need-pick-requires-6
+pick-requires-6 c κs = search needs
+
+pick-requires-7 : tie.Need-pick-requires-7
+pick-requires-7 c κs = search needs
+
+returns : tie.Need-returns
+returns c = cc
+
+pub next-wave-spec : {M : Type 1} → statement M
+next-wave-spec =
+    tie.close
+    (tie.spec
+    asked-requires
+    next-since-requires
+    pick-requires
+    pick-requires-2
+    add-pick
+    pick-requires-3
+    pick-requires-4
+    pick-requires-5
+    pick-requires-6
+    pick-requires-7
+    returns)
