@@ -27,66 +27,25 @@ use rules::Transfer;
 use rules::Verdict;
 use rules::Wave;
 
+// The watchdog, as the sums of ages are.
+const AGE_MOST: u64 = Judge::WATCHDOG as u64;
+
 // ---- what sixteen bytes say
 
-// Four bytes, most significant first.
-fn word(a: u8, b: u8, c: u8, d: u8) -> u32
-    ensures { λ r. ⌜ r ≡ a * 16777216 + b * 65536 + c * 256 + d ⌝ }
-{
-    a as u32 * 16777216 + b as u32 * 65536 + c as u32 * 256 + d as u32
-}
-
-// AD: the lower half of a byte, three bytes, and the upper half of a byte.
-fn ad_of(a: u8, b: u8, c: u8, d: u8, e: u8) -> u32
-    ensures { λ r. ⌜ r ≡ a % 16 * 268435456 + b * 1048576 + c * 4096 + d * 16 + e / 16 ⌝ }
-{
-    (a % 16) as u32 * 268435456 + word(b, c, d, e) / 16
-}
-
-// VAD: four bytes and the highest bit of a fifth.
-fn vad_of(a: u8, b: u8, c: u8, d: u8, e: u8) -> u64
-    ensures { λ r. ⌜ r ≡ a * 33554432 + b * 131072 + c * 512 + d * 2 + e / 128 ⌝ }
-{
-    word(a, b, c, d) as u64 * 2 + (e / 128) as u64
-}
-
-// The record that the first sixteen bytes of a part hold.
+// The record at the front of a part.
 fn record_in(part: &[u8]) -> Record
     requires { ⌜ 16 ≤ length (now part) ⌝ }
     ensures { λ r. ⌜ r ≡ recordIn (take 16 (now (part .entry))) ⌝ }
 {
-    let four = part[4];
-    let five = part[5];
-    let nine = part[9];
-    let stamp = word(part[0], part[1], part[2], part[3]);
-    let ad = ad_of(five, part[6], part[7], part[8], nine);
-    let vad = vad_of(part[10], part[11], part[12], part[13], part[14]);
-    Record {
-        stamp: stamp,
-        reset: four / 128 % 2 == 1,
-        rqst: four / 64 % 2 == 1,
-        arb: four / 4 % 16,
-        start: four / 2 % 2 == 1,
-        ack: four % 2 == 1,
-        tm1: five / 128 % 2 == 1,
-        tm0: five / 64 % 2 == 1,
-        sp: five / 32 % 2 == 1,
-        spv: five / 16 % 2 == 1,
-        ad: ad,
-        vtm1: nine / 8 % 2 == 1,
-        vtm0: nine / 4 % 2 == 1,
-        vack: nine / 2 % 2 == 1,
-        vsack: nine % 2 == 1,
-        vad: vad,
-    }
+    record::lines_in(part)
 }
 
-// Their spare bits.
+// Its spare bits.
 fn spare_in(part: &[u8]) -> u16
     requires { ⌜ 16 ≤ length (now part) ⌝ }
     ensures { λ r. ⌜ r ≡ spareIn (take 16 (now (part .entry))) ⌝ }
 {
-    (part[14] % 128) as u16 * 256 + part[15] as u16
+    record::spare_in(part)
 }
 
 // ---- what the judge's state says of the cycles before
@@ -239,7 +198,7 @@ fn turn_within(limit: u8, start: bool, asked: bool, arb: u8, last: u8, turn: u8)
 fn young(busy: bool, age: u16, d: u32) -> bool
     ensures { λ r. ⌜ r ≡ rule12 busy age d ⌝ }
 {
-    !busy | (age as u64 + d as u64 <= 256)
+    !busy | (age as u64 + d as u64 <= AGE_MOST)
 }
 
 // The strobes of an open block so far, this record's among them, and those at a successful ACK.
@@ -553,7 +512,8 @@ fn ack_holds(transfer: Transfer, tm1: bool, tm0: bool, d: u32) -> bool
             strobes,
             age,
         } => {
-            (age as u64 + d as u64 <= 256) & (!(tm1 & tm0) | (strobes as u32 + 1 == words as u32))
+            (age as u64 + d as u64 <= AGE_MOST)
+                & (!(tm1 & tm0) | (strobes as u32 + 1 == words as u32))
         }
     }
 }
@@ -569,7 +529,7 @@ fn quiet_holds(transfer: Transfer, tm0: bool, d: u32) -> bool
             age,
         } => {
             let with = strobes as u32 + 1;
-            (age as u64 + d as u64 <= 256) & (!((1 < words) & tm0) | (with < words as u32))
+            (age as u64 + d as u64 <= AGE_MOST) & (!((1 < words) & tm0) | (with < words as u32))
         }
     }
 }
@@ -875,14 +835,14 @@ fn judge_by_value(bytes: &[u8], judge: Judge, tally: Tally) -> Call
     let end = judge_all(bytes, judge, tally);
     let verdict = end.verdict;
     let state = end.judge;
-    let totals = end.tally;
+    let next = end.tally;
     let judged = Judged {
         verdict: verdict,
         judge: state,
     };
     Call {
         judged: judged,
-        tally: totals,
+        tally: next,
     }
 }
 

@@ -76,3 +76,10 @@ parsed bs = cond (eqb (spareIn bs) 0) (accepted (recordIn bs)) (refused 3 blank)
 -- fewer than sixteen bytes have no spare bits to read: 6
 unfoldable pub unpackOf : List ℕ → ℕ → Answer Record
 unpackOf buf at = cond (tooFew (length buf) at) (refused 6 blank) (parsed (take 16 (drop at buf)))
+
+-- the record at the front of a part, whatever its spare bits, and these bits: all zeros where there are fewer than sixteen bytes
+unfoldable pub linesOf : List ℕ → Record
+linesOf part = cond (tooFew (length part) 0) blank (recordIn (take 16 part))
+
+unfoldable pub spareOf : List ℕ → ℕ
+spareOf part = cond (tooFew (length part) 0) 0 (spareIn (take 16 part))

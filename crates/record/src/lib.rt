@@ -6,7 +6,7 @@ ghost use Prim.Native.Nat.{_+_, _*_, _%_, _/_, _≤_, _<_};
 ghost use lib.ListN.{length, take, drop};
 ghost use Rattle.basics.specs.Lines.{one};
 ghost use Rattle.record.specs.Layout.{packed, recordIn};
-ghost use Rattle.record.specs.Packing.{tooWide, tooFew, packedNumber, packRefusal, packInto, unpackedAnswer, parsed, unpackOf};
+ghost use Rattle.record.specs.Packing.{tooWide, tooFew, packedNumber, packRefusal, packInto, unpackedAnswer, parsed, unpackOf, blank, linesOf, spareOf};
 
 // One bus cycle's lines with their stamp; the spare bits are not part of it.
 pub struct Record {
@@ -194,6 +194,49 @@ fn read_record(part: &[u8]) -> Record
         vsack: nine % 2 == 1,
         vad: vad,
     }
+}
+
+fn blank_record() -> Record
+    ensures { λ r. ⌜ r ≡ blank ⌝ }
+{
+    Record {
+        stamp: 0,
+        reset: false,
+        rqst: false,
+        arb: 0,
+        start: false,
+        ack: false,
+        tm1: false,
+        tm0: false,
+        sp: false,
+        spv: false,
+        ad: 0,
+        vtm1: false,
+        vtm0: false,
+        vack: false,
+        vsack: false,
+        vad: 0,
+    }
+}
+
+// The record at the front of a part, whatever its spare bits: the judge tells of those by a rule and not by a refusal.
+pub fn lines_in(part: &[u8]) -> Record
+    ensures { λ r. ⌜ r ≡ linesOf (now (part .entry)) ⌝ }
+{
+    if is_too_few(part.len(), 0) {
+        return blank_record();
+    }
+    read_record(part)
+}
+
+// Its spare bits.
+pub fn spare_in(part: &[u8]) -> u16
+    ensures { λ r. ⌜ r ≡ spareOf (now (part .entry)) ⌝ }
+{
+    if is_too_few(part.len(), 0) {
+        return 0;
+    }
+    spare_of(part[14], part[15])
 }
 
 // What the first sixteen bytes of a part say.

@@ -1,0 +1,50 @@
+-- `spurcalls::lines::put_forty` is safe and ends: the place is at most 40, and falls short of it by less each turn. Assumes nothing.
+use Prim.Native.Nat.{_≤_, _-_}
+use borrow.Author.Needs.{needs}
+use Rattle.spurcalls.proofs.lines.put_forty.Statement.{statement}
+use Rattle.spurcalls.proofs.lines.put_forty.Tie as tie
+
+abbrev Inv-loop : tie.InvT-loop
+Inv-loop out₀ bytes i₀ out i = i ≤ 40
+
+abbrev μ-loop : tie.MeasureT-loop
+μ-loop out₀ bytes i₀ out i = 40 - i
+
+loop-holds : tie.Need-loop-holds Inv-loop μ-loop
+loop-holds c = search needs
+
+element-copy-out-out : tie.Need-element-copy-out-out Inv-loop μ-loop
+element-copy-out-out c = search needs
+
+add-out : tie.Need-add-out Inv-loop μ-loop
+add-out c = search needs
+
+element-write-out : tie.Need-element-write-out Inv-loop μ-loop
+element-write-out c = search needs
+
+add-i : tie.Need-add-i Inv-loop μ-loop
+add-i c = search needs
+
+loop-less : tie.Need-loop-less Inv-loop μ-loop
+loop-less c = search needs
+
+loop-again : tie.Need-loop-again Inv-loop μ-loop
+loop-again c = search needs
+
+returns : tie.Need-returns Inv-loop μ-loop
+returns c = search needs
+
+pub put-forty-spec : {M : Type 1} → statement M
+put-forty-spec =
+    tie.close
+    (tie.spec
+    Inv-loop
+    μ-loop
+    loop-holds
+    element-copy-out-out
+    add-out
+    element-write-out
+    add-i
+    loop-less
+    loop-again
+    returns)
