@@ -130,32 +130,25 @@ pub fn pack(buf: &mut [u8], at: usize, lines: Record) -> Packed
     Packed::Written
 }
 
-// Three bytes as one number.
-fn three(a: u8, b: u8, c: u8) -> u32
-    ensures { λ r. ⌜ (r ≡ a * 65536 + b * 256 + c) × (r < 16777216) ⌝ }
-{
-    a as u32 * 65536 + b as u32 * 256 + c as u32
-}
-
-// The stamp: four bytes.
+// Four bytes as one number: the stamp, and most of AD and VAD. A compiler reads them in one load.
 fn stamp_of(a: u8, b: u8, c: u8, d: u8) -> u32
     ensures { λ r. ⌜ r ≡ a * 16777216 + b * 65536 + c * 256 + d ⌝ }
 {
-    a as u32 * 16777216 + three(b, c, d)
+    a as u32 * 16777216 + b as u32 * 65536 + c as u32 * 256 + d as u32
 }
 
 // AD: the lower half of a byte, three bytes, and the upper half of a byte.
 fn ad_of(a: u8, b: u8, c: u8, d: u8, e: u8) -> u32
     ensures { λ r. ⌜ r ≡ a % 16 * 268435456 + b * 1048576 + c * 4096 + d * 16 + e / 16 ⌝ }
 {
-    (a % 16) as u32 * 268435456 + three(b, c, d) * 16 + (e / 16) as u32
+    (a % 16) as u32 * 268435456 + stamp_of(b, c, d, e) / 16
 }
 
 // VAD: four bytes and the highest bit of a fifth.
 fn vad_of(a: u8, b: u8, c: u8, d: u8, e: u8) -> u64
     ensures { λ r. ⌜ r ≡ a * 33554432 + b * 131072 + c * 512 + d * 2 + e / 128 ⌝ }
 {
-    a as u64 * 33554432 + three(b, c, d) as u64 * 2 + (e / 128) as u64
+    stamp_of(a, b, c, d) as u64 * 2 + (e / 128) as u64
 }
 
 // The spare bits: a byte without its highest bit, and a byte.
