@@ -24,6 +24,7 @@ link faults bigstreams $model $makers $running
 link golden goldenrules $model $makers $running
 link selftest lookback $model $makers
 link makerec $model $makers
+link makecalls $model $makers
 for p in judge make; do
     ${CC:-cc} -O3 -std=c11 -Wall -Wextra -Werror -o "$out/bench$p" "../bench/$p.c"
 done

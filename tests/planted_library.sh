@@ -1,0 +1,120 @@
+#!/bin/sh
+# Plants the bugs of planted_library.txt, one at a time, in a copy of the library's code, proofs set
+# aside, and counts those that show: tests/planted_library.sh [OUTDIR]
+# A program with no proof is never built to a file, so the copy is run from source by `rt try`, over
+# calls and recordings of the outside tests' makers, and what it writes is held to what the model
+# answers. A bug in spurjudge/ is looked for by spurjudge, any other by spurcalls.
+# LISTS is the number of lists of 3,000 calls for each of five subjects (5), SHOW=1 shows what
+# `rt try` said, ONLY is a piece of the description of those to be planted.
+here=$(cd "$(dirname "$0")" && pwd)
+out=${1:-}
+if [ -z "$out" ]; then
+    out=$(mktemp -d) || exit 2
+    trap 'rm -rf "$out"' EXIT
+fi
+sh "$here/build.sh" "$out" || exit 2
+out=$(cd "$out" && pwd)
+copy=$out/library inputs=$out/inputs
+planted=0 caught=0
+
+edit() { # file, old, new: the first old of the copy's file replaced
+    cp "$copy/crates/$1" "$out/whole" || exit 2
+    OLD=$2 NEW=$3 awk '
+        !done && (at = index($0, ENVIRON["OLD"])) {
+            $0 = substr($0, 1, at - 1) ENVIRON["NEW"] substr($0, at + length(ENVIRON["OLD"]))
+            done = 1
+        }
+        { print }
+        END { exit !done }' "$out/whole" >"$copy/crates/$1" ||
+        { echo "not found in $1: $2"; exit 2; }
+}
+
+rm -rf "$copy" "$inputs"
+mkdir -p "$copy/crates" "$inputs" || exit 2
+cp "$here/../crates.txt" "$copy" || exit 2
+for crate in "$here"/../crates/*/; do
+    mkdir "$copy/crates/$(basename "$crate")"
+    cp -R "$crate/src" "$copy/crates/$(basename "$crate")/src" || exit 2
+done
+# rt try gives no pipe: here the judging program takes 1,000 bytes at most in a read, which tears
+# records as a pipe does.
+edit spurjudge/src/main.rt 'libc::read(STDIN_FILENO, &mut buffer[torn..])' \
+    'libc::read(STDIN_FILENO, &mut buffer[torn..1000])'
+
+# A short list, which the interpreter runs to its end, and long ones, in which it stops after ten
+# million steps; recordings that conform, with a torn end, and with a breach.
+"$out/makecalls" 400 1 >"$inputs/spurcalls.1" || exit 2
+list=2
+while [ "$list" -le $((${LISTS:-5} + 1)) ]; do
+    "$out/makecalls" 3000 "$list" >"$inputs/spurcalls.$list" || exit 2
+    list=$((list + 1))
+done
+"$out/makerec" sound 4000 1 >"$inputs/spurjudge.1" || exit 2
+{ "$out/makerec" wild 3000 2 && printf torn; } >"$inputs/spurjudge.2" || exit 2
+"$out/makerec" breach 4000 3 >"$inputs/spurjudge.3" || exit 2
+
+# Runs the program over its inputs: 0 where it writes what the model does, 1 at the first where it
+# doesn't, and then $where says where. All ways to run it have a say, but for an interpreter that
+# ran out of steps.
+try() { # program
+    for input in "$inputs/$1".*; do
+        case $1 in
+        spurcalls) "$out/modelcalls" ;;
+        *) "$out/modeljudge" ;;
+        esac <"$input" >"$copy/crates/$1/stdout"
+        cp "$input" "$copy/crates/$1/stdin" || exit 2
+        (cd "$copy" && rt try "$1") >"$out/said" 2>&1 && continue
+        if [ "$(grep -c '^ok: the native program' "$out/said")" = 3 ] &&
+            grep -q '^the run did not finish within' "$out/said"; then
+            continue
+        fi
+        if ! grep -q '^FAIL: the native program' "$out/said"; then
+            cat "$out/said"
+            echo "$1 could not be run"
+            exit 2
+        fi
+        where="recording ${input##*.}"
+        if [ "$1" = spurcalls ]; then
+            byte=$(sed -n '/^FAIL: the native/,$s/^on standard output, at byte \([0-9]*\).*/\1/p' \
+                "$out/said" | head -n 1)
+            call=$((${byte:-0} / 64))
+            op=$(od -An -tu1 -j $((call * 64)) -N 1 "$input" | tr -d ' ')
+            where="list ${input##*.}, call $call, operation $op"
+        fi
+        return 1
+    done
+}
+
+one() { # file, old, new, what
+    edit "$1" "$2" "$3"
+    planted=$((planted + 1))
+    program=spurcalls
+    case $1 in spurjudge/*) program=spurjudge ;; esac
+    if try "$program"; then
+        echo "MISSED: ${1%%/*}: $4"
+    else
+        caught=$((caught + 1))
+        echo "caught ($where): ${1%%/*}: $4"
+        [ -n "$SHOW" ] && cut -c 1-200 "$out/said" | sed 's/^/    /'
+    fi
+    cp "$out/whole" "$copy/crates/$1"
+}
+
+for program in spurcalls spurjudge; do
+    try "$program" || {
+        cut -c 1-200 "$out/said"
+        echo "without a bug $program differs from the model: $where"
+        exit 2
+    }
+done
+calls=$(cat "$inputs"/spurcalls.* | wc -c)
+echo "without a bug: $((calls / 64)) calls and three recordings, all as the model answers"
+while IFS= read -r file; do
+    case $file in '#'* | '') continue ;; esac
+    IFS= read -r old
+    IFS= read -r new
+    IFS= read -r what
+    case $what in *"$ONLY"*) one "$file" "$old" "$new" "$what" ;; esac
+done <"$here/planted_library.txt"
+echo "planted in the library: $caught of $planted caught"
+[ "$caught" = "$planted" ]
