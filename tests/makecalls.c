@@ -1,28 +1,56 @@
 /* Writes a list of calls for the driver program to standard output:
 
-   makecalls CALLS SEED   about so many for each of codes, records, bus, cache and judge
+   makecalls mixed CALLS SEED     so many or a few more for each of codes, records, bus, cache, judge
+   makecalls damaged COUNT SEED   for each rule so many recordings that break it first, each to a
+                                  fresh judge, three records a call
 
    A call whose answer the paper leaves to the build is left out, so every answer may be compared. */
 #include <stdio.h>
 #include <stdlib.h>
+#include <string.h>
 #include "make.h"
+
+static void mixed(struct buffer *all, struct rng *g, unsigned long calls)
+{
+    static const enum subject subjects[] = {CODES, RECORDS, BUS, CACHE, JUDGE};
+    for (size_t i = 0; i < sizeof subjects / sizeof subjects[0]; i++) {
+        struct buffer one = {0};
+        make_calls(&one, g, subjects[i], calls);
+        buffer_add(all, one.bytes, one.len);
+        buffer_free(&one);
+    }
+}
+
+static void damaged(struct buffer *all, struct rng *g, int rule)
+{
+    struct maker m;
+    maker_start(&m, g, 16);
+    damage(&m, rule);
+    buffer_add(all, (const uint8_t[CALL]){19, 16}, CALL);
+    for (size_t at = 0; at < m.out.len; at += 3 * RECORD) {
+        size_t n = m.out.len - at < 3 * RECORD ? m.out.len - at : 3 * RECORD;
+        uint8_t call[CALL] = {20, (uint8_t)n};
+        memcpy(call + 2, m.out.bytes + at, n);
+        buffer_add(all, call, CALL);
+    }
+    buffer_free(&m.out);
+}
 
 int main(int argc, char **argv)
 {
     static struct driver kept, d;
-    static const enum subject subjects[] = {CODES, RECORDS, BUS, CACHE, JUDGE};
     struct buffer all = {0};
-    struct rng g = {argc == 3 ? strtoul(argv[2], NULL, 0) : 0};
-    unsigned long calls = argc == 3 ? strtoul(argv[1], NULL, 0) : 0;
-    if (calls == 0) {
-        fprintf(stderr, "makecalls CALLS SEED\n");
+    struct rng g = {argc == 4 ? strtoul(argv[3], NULL, 0) : 0};
+    unsigned long count = argc == 4 ? strtoul(argv[2], NULL, 0) : 0;
+    if (count > 0 && strcmp(argv[1], "mixed") == 0) {
+        mixed(&all, &g, count);
+    } else if (count > 0 && strcmp(argv[1], "damaged") == 0) {
+        for (unsigned long i = 0; i < count; i++)
+            for (int rule = 1; rule <= 13; rule++)
+                damaged(&all, &g, rule);
+    } else {
+        fprintf(stderr, "makecalls mixed CALLS SEED | damaged COUNT SEED\n");
         return 2;
-    }
-    for (size_t i = 0; i < sizeof subjects / sizeof subjects[0]; i++) {
-        struct buffer one = {0};
-        make_calls(&one, &g, subjects[i], calls);
-        buffer_add(&all, one.bytes, one.len);
-        buffer_free(&one);
     }
     driver_start(&d);
     for (size_t at = 0; at < all.len; at += CALL) {

@@ -4,8 +4,9 @@
 # A program with no proof is never built to a file, so the copy is run from source by `rt try`, over
 # calls and recordings of the outside tests' makers, and what it writes is held to what the model
 # answers. A bug in spurjudge/ is looked for by spurjudge, any other by spurcalls.
-# LISTS is the number of lists of 3,000 calls for each of five subjects (5), SHOW=1 shows what
-# `rt try` said, ONLY is a piece of the description of those to be planted.
+# LISTS is the number of long lists of 3,000 calls for each of five subjects (5), SEED is added to
+# the seeds (0), SHOW=1 shows what `rt try` said, ONLY is a piece of the description of those to be
+# planted.
 here=$(cd "$(dirname "$0")" && pwd)
 out=${1:-}
 if [ -z "$out" ]; then
@@ -14,7 +15,7 @@ if [ -z "$out" ]; then
 fi
 sh "$here/build.sh" "$out" || exit 2
 out=$(cd "$out" && pwd)
-copy=$out/library inputs=$out/inputs
+copy=$out/library inputs=$out/inputs seed=${SEED:-0}
 planted=0 caught=0
 
 edit() { # file, old, new: the first old of the copy's file replaced
@@ -42,15 +43,18 @@ edit spurjudge/src/main.rt 'libc::read(STDIN_FILENO, &mut buffer[torn..])' \
     'libc::read(STDIN_FILENO, &mut buffer[torn..1000])'
 
 # A short list, which the interpreter runs to its end, and long ones, in which it stops after ten
-# million steps; recordings that conform, with a torn end, and with a breach.
-"$out/makecalls" 400 1 >"$inputs/spurcalls.1" || exit 2
-list=2
-while [ "$list" -le $((${LISTS:-5} + 1)) ]; do
-    "$out/makecalls" 3000 "$list" >"$inputs/spurcalls.$list" || exit 2
+# million steps, first two with 25 damaged recordings for each rule; recordings that conform, with
+# a torn end, and with a breach.
+"$out/makecalls" mixed 400 $((seed + 1)) >"$inputs/spurcalls.1" || exit 2
+"$out/makecalls" damaged 25 $((seed + 2)) >"$inputs/spurcalls.2" || exit 2
+"$out/makecalls" damaged 25 $((seed + 3)) >"$inputs/spurcalls.3" || exit 2
+list=4
+while [ "$list" -le $((${LISTS:-5} + 3)) ]; do
+    "$out/makecalls" mixed 3000 $((seed + list)) >"$inputs/spurcalls.$list" || exit 2
     list=$((list + 1))
 done
-"$out/makerec" sound 4000 1 >"$inputs/spurjudge.1" || exit 2
-{ "$out/makerec" wild 3000 2 && printf torn; } >"$inputs/spurjudge.2" || exit 2
+"$out/makerec" sound 4000 $((seed + 1)) >"$inputs/spurjudge.1" || exit 2
+{ "$out/makerec" wild 3000 $((seed + 2)) && printf torn; } >"$inputs/spurjudge.2" || exit 2
 "$out/makerec" breach 4000 3 >"$inputs/spurjudge.3" || exit 2
 
 # Runs the program over its inputs: 0 where it writes what the model does, 1 at the first where it
