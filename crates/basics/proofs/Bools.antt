@@ -1,6 +1,7 @@
 -- Laws of tests and choices, for every crate. Assumes nothing.
 use mathlib.Core.Path.{_≡_, refl, sym, ap, _∙_}
 use mathlib.Core.Bool.{Bool, true, false, cond, not, _&&_, _||_, true≢false, false≢true}
+use Rattle.basics.specs.Order.{implies}
 
 -- what holds of both choices, each where its test led there, holds of the choice
 pub choice {ℓ} : {A : Type ℓ} (P : A → Type 0) (t : Bool) {a b : A} → (t ≡ true → P a) → (t ≡ false → P b) → P (cond t a b)
@@ -39,3 +40,12 @@ and-both false b e = absurd (false≢true e)
 pub both-and : (a b : Bool) → a ≡ true → b ≡ true → (a && b) ≡ true
 both-and true b e f = f
 both-and false b e f = absurd (false≢true e)
+
+-- what an implication gives, and how it is shown
+pub implied : (a b : Bool) → implies a b ≡ true → a ≡ true → b ≡ true
+implied true b e h = e
+implied false b e h = absurd (false≢true h)
+
+pub implying : (a b : Bool) → (a ≡ true → b ≡ true) → implies a b ≡ true
+implying true b f = f refl
+implying false b f = refl

@@ -5,7 +5,7 @@ use mathlib.Core.Path.{_≡_, refl, sym, ap, subst, _∙_}
 use native.Mathlib.Omega.{arith}
 use borrow.Author.Tests.{eqb-true, eqb-false, eq-eqb, ne-eqb, lt-ltb, le-ltb, ltb-true}
 use lib.Dec.{eqb, ltb}
-use Rattle.basics.proofs.Bools.{choice, by-test, cond-true, cond-false, and-both, both-and, not-true}
+use Rattle.basics.proofs.Bools.{choice, by-test, cond-true, cond-false, and-both, both-and, not-true, implied, implying}
 use Rattle.cache.specs.States.{invalid, legal, valid, private, owns}
 use Rattle.basics.specs.Order.{implies}
 use Rattle.cache.specs.Block.{Block, Coherent, ownerBelow, owner, supplied, guarded, sound, every, coherent}
@@ -44,14 +44,6 @@ owned state (suc n) = choice (λ o. Owned state (suc n) o) (owns (state n)) (λ 
         (λ i. f k (let z : k ≡ n → ⊥ = eqb-false k n i in omega arith)))
 
 -- ---- one slot's test
-implied : (a b : Bool) → implies a b ≡ true → a ≡ true → b ≡ true
-implied true b e h = e
-implied false b e h = absurd (false≢true h)
-
-implying : (a b : Bool) → (a ≡ true → b ≡ true) → implies a b ≡ true
-implying true b f = f refl
-implying false b f = refl
-
 record Sound (state copy : ℕ) (itself held : Bool) (value : ℕ) : Type 0 where
   pub known : legal state ≡ true
   pub owning : owns state ≡ true → itself ≡ true

@@ -9,7 +9,7 @@ use borrow.Author.Tests.{eq-eqb, eqb-true, ltb-true, leb-true, le-leb, lt-ltb, l
 use Rattle.basics.specs.Lines.{one}
 use Rattle.basics.specs.Numbers.{watchdog}
 use Rattle.basics.specs.Order.{implies}
-use Rattle.basics.proofs.Bools.{choice, cond-true, cond-false, by-test, and-both, both-and}
+use Rattle.basics.proofs.Bools.{choice, cond-true, cond-false, by-test, and-both, both-and, implied}
 use Rattle.record.specs.declared.Record.{Record}
 use Rattle.codes.specs.Owed.{wordsOf}
 use Rattle.rules.specs.declared.Judge.{Judge}
@@ -20,7 +20,7 @@ use Rattle.rules.specs.declared.Transfer.the-variants.{Idle, Open}
 use Rattle.rules.specs.Rules.{strobe, rule3, rule4, rule5, rule6, rule7, rule8, rule9, rule10, rule11, rule12, rule13, rule13a, rule13b}
 use Rattle.rules.specs.State.{isOpen, openWords, openStrobes, openAge, agedOf, transferOf, askedOf, twiceOf, capped, waveOf, movedOf, tallyOf}
 use Rattle.rules.specs.Run.{laterRules, from, stepOf}
-use Rattle.rules.proofs.Laws.{AllHold, implied}
+use Rattle.rules.proofs.Laws.{AllHold}
 use Rattle.judge.specs.Quick.{WaveKept, Plain, waitedOf, startedOf, turnHolds, startHolds, requestHolds, ackHolds, quietHolds, StartKept, AckKept, QuietKept}
 use Rattle.judge.proofs.Steps.{not-holds, step-kept}
 

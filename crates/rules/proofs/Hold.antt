@@ -1,4 +1,4 @@
--- The transfer that the judge holds is the one that the recording has open, and rules 4, 5, 12 and 13 are exact. Assumes nothing.
+-- The transfer that the judge implying is the one that the recording has open, and rules 4, 5, 12 and 13 are exact. Assumes nothing.
 use Prim.Native.Nat.{ℕ, suc, _+_, _≤_, _<_}
 use mathlib.Core.Bool.{Bool, true, false, not, _&&_, false≢true, and-false}
 use mathlib.Core.Path.{_≡_, refl, sym, ap, subst, _∙_}
@@ -7,7 +7,7 @@ use native.Mathlib.Omega.{arith}
 use lib.Dec.{ltb, eqb}
 use borrow.Author.Tests.{ltb-true, lt-ltb, le-ltb, leb-true, le-leb, eqb-true, eq-eqb}
 use Rattle.basics.specs.Lines.{one}
-use Rattle.basics.proofs.Bools.{choice, and-both}
+use Rattle.basics.proofs.Bools.{choice, and-both, implied, implying}
 use Rattle.codes.specs.Start.{meaning, decodeOf}
 use Rattle.rules.specs.declared.Transfer.{Transfer}
 use Rattle.rules.specs.declared.Transfer.the-variants.{Idle, Open}
@@ -20,8 +20,7 @@ use Rattle.rules.specs.State.{isOpen, openWords, openStrobes, openAge, a
 use Rattle.rules.specs.Bounds.{SoundTransfer}
 use Rattle.rules.specs.Recording.{Lines, gap, cycle, count, Opened, wordsAt, strobeOf}
 use Rattle.rules.specs.Thirteen.{Rule4, Rule5, Rule7, Rule12, Rule13, Rule13a, Rule13b}
-use Rattle.rules.proofs.Laws.{implied}
-use Rattle.rules.proofs.Places.{below, same-place, more, less, alone, count-none, clash, and-pair, holds, itself, off-iff, and-iff, both-imply-iff}
+use Rattle.rules.proofs.Places.{below, same-place, more, less, alone, count-none, clash, and-pair, itself, off-iff, and-iff, both-imply-iff}
 
 -- ---- codes
 -- a code has words exactly if it has a meaning
@@ -103,7 +102,7 @@ held-started r i nr s na r7 =
       aged = omega arith;
     }
 
--- a strobe of this record, by the words that the judge holds
+-- a strobe of this record, by the words that the judge implying
 strobe-now : (r : Lines) (i k w : ℕ) → k < i → w ≡ wordsAt r k → strobeOf r k i ≡ strobe w (r i .start) (r i .ack) (r i .tm0)
 strobe-now r i k w lt e = rw (lt-ltb k i lt, e)
 
@@ -178,7 +177,7 @@ rule13b-exact r i k w s a h = (
   λ e n o x y z. subst (λ m. count (strobeOf r m) i + 1 ≡ wordsAt r m) (only r i k n (h .since) o)
       (let u = eqb-true (s + 1) w (implied (r i .ack && r i .tm1 && r i .tm0) _ e (and-pair (and-pair x y) z)) in
       let q : count (strobeOf r k) i + 1 ≡ wordsAt r k = omega (arith, h .seen, h .same) in q),
-  λ f. holds (r i .ack && r i .tm1 && r i .tm0) (eqb (s + 1) w) (λ e.
+  λ f. implying (r i .ack && r i .tm1 && r i .tm0) (eqb (s + 1) w) (λ e.
       let p = and-both (r i .ack && r i .tm1) (r i .tm0) e in
       let q = and-both (r i .ack) (r i .tm1) (p .0) in
       let u = f k (h .since) (q .0) (q .1) (p .1) in

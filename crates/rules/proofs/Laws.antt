@@ -12,7 +12,7 @@ use lib.Dec.{leb, ltb, eqb}
 use borrow.Author.Tests.{eq-eqb, ne-eqb, leb-true, ltb-true, eqb-true, le-leb, lt-ltb}
 use Rattle.basics.specs.Lines.{one}
 use Rattle.basics.specs.Order.{unless}
-use Rattle.basics.proofs.Bools.{choice, cond-true, cond-false, and-both, both-and}
+use Rattle.basics.proofs.Bools.{choice, cond-true, cond-false, and-both, both-and, implied}
 use Rattle.record.specs.declared.Record.{Record}
 use Rattle.record.specs.Layout.{recordIn, fieldsIn}
 use Rattle.rules.specs.declared.Judge.{Judge}
@@ -33,10 +33,6 @@ use Rattle.rules.specs.Verdict.{mostRecords, refusalOf, refusedBy, outco
 
 -- ---- tests
 -- where the first part holds, the second does
-pub implied : (a b : Bool) → implies a b ≡ true → a ≡ true → b ≡ true
-implied true b e h = e
-implied false b e h = absurd (false≢true h)
-
 pub unless-zero : (b : Bool) (n rest : ℕ) → ltb 0 n ≡ true → unless b n rest ≡ 0 → (b ≡ true) × (rest ≡ 0)
 unless-zero true n rest p e = (refl, e)
 unless-zero false n rest p e = absurd (let h = ltb-true 0 n p in omega arith)

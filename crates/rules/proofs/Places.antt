@@ -62,10 +62,6 @@ pub or-right : (a : Bool) {b : Bool} → b ≡ true → (a || b) ≡ true
 or-right true e = refl
 or-right false e = e
 
-pub holds : (a b : Bool) → (a ≡ true → b ≡ true) → implies a b ≡ true
-holds true b f = f refl
-holds false b f = refl
-
 -- what a test says
 pub itself : (b : Bool) → (b ≡ true) ↔ (b ≡ true)
 itself b = (λ e. e, λ e. e)

@@ -7,15 +7,14 @@ use native.Mathlib.Omega.{arith}
 use lib.Dec.{ltb, leb, eqb}
 use borrow.Author.Tests.{ltb-true, ltb-false, lt-ltb, le-ltb, leb-true, le-leb, eqb-true, eq-eqb, eqb-false, not-true}
 use Rattle.basics.specs.Lines.{one}
-use Rattle.basics.proofs.Bools.{cond-true, cond-false, and-both, by-test, not-true as refuted}
+use Rattle.basics.proofs.Bools.{cond-true, cond-false, and-both, by-test, not-true as refuted, implied, implying}
 use Rattle.rules.specs.declared.Wave.{Wave}
 use Rattle.basics.specs.Order.{implies}
 use Rattle.rules.specs.Rules.{rule8, rule8a, rule8b, rule8c, rule9, rule10, rule11}
 use Rattle.rules.specs.State.{askedOf, twiceOf, capped, waveOf, freshWave}
 use Rattle.rules.specs.Recording.{Lines, gap, cycle, count, NoReset, Asked, Began, LastStart, startWith, Owned}
 use Rattle.rules.specs.Thirteen.{Rule8, Rule8a, Rule8b, Rule8c, Rule9, Rule10, Rule11}
-use Rattle.rules.proofs.Laws.{implied}
-use Rattle.rules.proofs.Places.{below, same-place, more, less, alone, count-none, clash, and-pair, not-off, or-split, or-left, or-right, holds, itself, not-iff, leb-iff, both-imply-iff}
+use Rattle.rules.proofs.Places.{below, same-place, more, less, alone, count-none, clash, and-pair, not-off, or-split, or-left, or-right, itself, not-iff, leb-iff, both-imply-iff}
 
 -- each record up to i stands later than the one before it (rule 2)
 abbrev pub Forward : Lines → ℕ → Type 0
@@ -358,7 +357,7 @@ of-wave : (r : Lines) (i : ℕ) (x : Bool) (P : ℕ → Type 0) → (asked r i �
     → (implies (r i .start && asked r i) x ≡ true) ↔ (r i .start ≡ true → (b m : ℕ) → Began r i b → LastStart r i b m → P m)
 of-wave r i x P test = (
   λ e s b m u l. let y = began-asked r i b u in test y .0 (implied (r i .start && asked r i) x e (and-pair s y)) b m u l,
-  λ g. holds (r i .start && asked r i) x (λ e. let z = and-both (r i .start) (asked r i) e in test (z .1) .1 (g (z .0))),
+  λ g. implying (r i .start && asked r i) x (λ e. let z = and-both (r i .start) (asked r i) e in test (z .1) .1 (g (z .0))),
 )
 
 pub rule8-exact : (r : Lines) (i : ℕ) (w : Wave) → Forward r i → WaveIs r i w → (rule8 (r i .start) (askedOf w (gap r i)) (twiceOf w (gap r i)) (w .owned) (w .since + gap r i) ≡ true) ↔ Rule8 r i
@@ -413,7 +412,7 @@ rule9-exact r i w h = rw (h .rqst) (at-place i)
       λ e k q a b. let u : k ≡ n = omega arith in
           let z = and-both (eqb (gap r (suc n)) 1) (r (suc n) .rqst || r (suc n) .start) (implied (last r (suc n)) _ e (and-pair (subst (λ m. r m .rqst ≡ true) u a) (not-off (subst (λ m. r m .reset ≡ false) u b)))) in
           (eqb-true (gap r (suc n)) 1 (z .0), λ ns. or-split (r (suc n) .rqst) (r (suc n) .start) (z .1) (λ x. x) (λ x. clash x ns)),
-      λ f. holds (last r (suc n)) (eqb (gap r (suc n)) 1 && (r (suc n) .rqst || r (suc n) .start)) (λ e.
+      λ f. implying (last r (suc n)) (eqb (gap r (suc n)) 1 && (r (suc n) .rqst || r (suc n) .start)) (λ e.
           let z = and-both (r n .rqst) (not (r n .reset)) e in
           let y = f n refl (z .0) (not-true (r n .reset) (z .1)) in
           and-pair (eq-eqb (gap r (suc n)) 1 (y .0)) (either (r (suc n) .start) (r (suc n) .rqst) (y .1))),
@@ -433,7 +432,7 @@ rule11-exact limit r i w low f h = rw (asked-is r i w h) (λ r10. (
   λ e s b u. let y = began-asked r i b u in
       let le = leb-true (r i .arb) (w .arb) (implied (r i .start && asked r i) _ r10 (and-pair s y)) in
       few (h .ride) y le b u (λ q. ltb-true (w .turn) limit (implied (r i .start && asked r i && eqb (r i .arb) (w .arb)) _ e (and-pair (and-pair s y) q))),
-  λ g. holds (r i .start && asked r i && eqb (r i .arb) (w .arb)) (ltb (w .turn) limit) (λ e.
+  λ g. implying (r i .start && asked r i && eqb (r i .arb) (w .arb)) (ltb (w .turn) limit) (λ e.
       let z = and-both (r i .start && asked r i) (eqb (r i .arb) (w .arb)) e in
       let v = and-both (r i .start) (asked r i) (z .0) in
       lt-ltb (w .turn) limit (back (h .ride) (v .1) (eqb-true (r i .arb) (w .arb) (z .1)) (g (v .0)))),
