@@ -19,8 +19,8 @@ use Rattle.codes.specs.declared.Operation.{Operation}
 use Rattle.codes.specs.declared.Code.{Code}
 use Rattle.codes.specs.declared.Status.{Status}
 use Rattle.codes.specs.declared.Status.the-variants.{Success, Error, Timeout, Again}
-use Rattle.codes.specs.Units.{bytesIn}
-use Rattle.codes.specs.Start.{unitOf, blockOf, meaning, decodeOf, byteUnit, markOf, encodeOf}
+use Rattle.codes.specs.Units.{bytesIn, byteUnit, markOf}
+use Rattle.codes.specs.Start.{unitOf, blockOf, meaning, decodeOf, encodeOf}
 use Rattle.codes.specs.Ack.{statusOf, statusLinesOf}
 use Rattle.codes.proofs.Laws.{line-on, line-off, is-two, is-four, is-eight, is-sixteen, codeOf, aligned, unaligned, mark-fits}
 

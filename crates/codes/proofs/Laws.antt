@@ -12,8 +12,8 @@ use Rattle.codes.specs.declared.Unit.the-variants.{Byte, Halfword, Word,
 use Rattle.codes.specs.declared.Size.the-variants.{Is, NoMeaning}
 use Rattle.codes.specs.declared.Operation.{Operation}
 use Rattle.codes.specs.declared.Code.{Code}
-use Rattle.codes.specs.Units.{bytesIn}
-use Rattle.codes.specs.Start.{blockOf, byteUnit, markOf, encodeOf, noCode}
+use Rattle.codes.specs.Units.{bytesIn, byteUnit, markOf}
+use Rattle.codes.specs.Start.{blockOf, encodeOf, noCode}
 
 -- line k by the number's digit: the form in which a remainder gives it
 pub line-on : (k ad : ℕ) → ad / 2 ^ k % 2 ≡ 1 → active k ad ≡ true
@@ -45,6 +45,16 @@ module _ (ad : ℕ) where
   pub no-length : active 2 ad ≡ true → active 3 ad ≡ true → active 4 ad ≡ true → active 5 ad ≡ true → blockOf ad ≡ NoMeaning
   unfolding blockOf
   no-length h i j k = rw (h, i, j, k)
+
+-- a unit has bytes, so that an address is divided by some
+pub some-bytes : (u : Unit) → 0 < bytesIn u
+some-bytes Byte = omega arith
+some-bytes Halfword = omega arith
+some-bytes Word = omega arith
+some-bytes Two = omega arith
+some-bytes Four = omega arith
+some-bytes Eight = omega arith
+some-bytes Sixteen = omega arith
 
 -- an aligned address has room for its unit's mark
 pub mark-fits : (u : Unit) (a : ℕ) → a < 2 ^ 32 → a % bytesIn u ≡ 0 → a + markOf u < 2 ^ 32

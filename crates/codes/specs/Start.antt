@@ -15,7 +15,7 @@ use Rattle.codes.specs.declared.Decoded.{Decoded}
 use Rattle.codes.specs.declared.Decoded.the-variants.{Means, NoMeaning as Meaningless}
 use Rattle.codes.specs.declared.Encoded.{Encoded}
 use Rattle.codes.specs.declared.Encoded.the-variants.{By, Unaligned}
-use Rattle.codes.specs.Units.{bytesIn}
+use Rattle.codes.specs.Units.{bytesIn, byteUnit, markOf}
 
 -- "AD2 inactive, 2 words; else AD3 inactive, 4; else AD4 inactive, 8; else AD5 inactive, 16; else no meaning"
 unfoldable pub blockOf : ℕ → Size
@@ -47,26 +47,6 @@ decodeOf tm1 tm0 ad = meaning tm1 ad (unitOf tm0 ad)
 abbrev pub decodedAnswer : Decoded → Answer Operation
 decodedAnswer (Means op) = accepted op
 decodedAnswer Meaningless = refused 4 noOperation
-
--- TM0 is active for a byte
-abbrev pub byteUnit : Unit → Bool
-byteUnit Byte = true
-byteUnit Halfword = false
-byteUnit Word = false
-byteUnit Two = false
-byteUnit Four = false
-byteUnit Eight = false
-byteUnit Sixteen = false
-
--- what the code of a unit has active among the address's low lines, which are zero
-abbrev pub markOf : Unit → ℕ
-markOf Byte = 0
-markOf Halfword = 1
-markOf Word = 0
-markOf Two = 2
-markOf Four = 6
-markOf Eight = 14
-markOf Sixteen = 30
 
 -- all zeros: what a refusal gives
 abbrev pub noCode : Code

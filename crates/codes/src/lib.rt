@@ -3,9 +3,9 @@ ghost use mathlib.Core.Path.{_≡_};
 ghost use Prim.Native.Nat.{_<_};
 ghost use Rattle.basics.specs.Lines.{active};
 ghost use Rattle.basics.specs.Answers.{accepted};
-ghost use Rattle.codes.specs.Units.{bytesIn, wordsIn};
+ghost use Rattle.codes.specs.Units.{measuresOf, wordsIn};
 ghost use Rattle.codes.specs.Owed.{wordsOf};
-ghost use Rattle.codes.specs.Start.{blockOf, meaning, decodeOf, decodedAnswer, byteUnit, markOf, encodeOf, encodedAnswer};
+ghost use Rattle.codes.specs.Start.{blockOf, meaning, decodeOf, decodedAnswer, encodeOf, encodedAnswer};
 ghost use Rattle.codes.specs.Modes.{modeOf, modeAt, rowOf};
 ghost use Rattle.codes.specs.Ack.{statusOf, statusLinesOf};
 ghost use Rattle.codes.specs.Parity.{parityOf};
@@ -135,18 +135,21 @@ fn block_length(ad: u32) -> Size
     }
 }
 
-// A unit's bytes, to which its address is aligned.
-fn bytes(unit: Unit) -> u32
-    ensures { λ r. ⌜ (r ≡ bytesIn unit) × (0 < r) ⌝ }
+// What tables 2.2 and 2.3 say of a unit: its bytes, to which its address is aligned; the words that its transfer owes; whether its code has
+// TM0 active; and what the code has active among the address's low lines, which are zero, so that the sum in `encode` can't carry.
+struct Measures(u32, u8, bool, u32);
+
+fn measured(unit: Unit) -> Measures
+    ensures { λ r. ⌜ r ≡ measuresOf unit ⌝ }
 {
     match unit {
-        Unit::Byte => 1,
-        Unit::Halfword => 2,
-        Unit::Word => 4,
-        Unit::Two => 8,
-        Unit::Four => 16,
-        Unit::Eight => 32,
-        Unit::Sixteen => 64,
+        Unit::Byte => Measures(1, 1, true, 0),
+        Unit::Halfword => Measures(2, 1, false, 1),
+        Unit::Word => Measures(4, 1, false, 0),
+        Unit::Two => Measures(8, 2, false, 2),
+        Unit::Four => Measures(16, 4, false, 6),
+        Unit::Eight => Measures(32, 8, false, 14),
+        Unit::Sixteen => Measures(64, 16, false, 30),
     }
 }
 
@@ -154,15 +157,8 @@ fn bytes(unit: Unit) -> u32
 pub fn words(unit: Unit) -> u8
     ensures { λ r. ⌜ r ≡ wordsIn unit ⌝ }
 {
-    match unit {
-        Unit::Byte => 1,
-        Unit::Halfword => 1,
-        Unit::Word => 1,
-        Unit::Two => 2,
-        Unit::Four => 4,
-        Unit::Eight => 8,
-        Unit::Sixteen => 16,
-    }
+    let row = measured(unit);
+    row.1
 }
 
 // Every meaning that the decoder gives is made here, from the table's direction, a unit and its address.
@@ -183,7 +179,8 @@ fn block(write: bool, ad: u32) -> Decoded
 {
     match block_length(ad) {
         Size::Is(unit) => {
-            let low = ad % bytes(unit);
+            let row = measured(unit);
+            let low = ad % row.0;
             means(write, unit, ad - low)
         }
         Size::NoMeaning => Decoded::NoMeaning,
@@ -226,47 +223,18 @@ pub fn words_owed(tm0: bool, ad: u32) -> u8
     }
 }
 
-// TM0 is active for a byte alone.
-fn is_byte(unit: Unit) -> bool
-    ensures { λ r. ⌜ r ≡ byteUnit unit ⌝ }
-{
-    match unit {
-        Unit::Byte => true,
-        Unit::Halfword => false,
-        Unit::Word => false,
-        Unit::Two => false,
-        Unit::Four => false,
-        Unit::Eight => false,
-        Unit::Sixteen => false,
-    }
-}
-
-// What a unit's code has active among the low lines, which are zero in an aligned address; so the sum in `encode` can't carry.
-fn mark(unit: Unit) -> u32
-    ensures { λ r. ⌜ r ≡ markOf unit ⌝ }
-{
-    match unit {
-        Unit::Byte => 0,
-        Unit::Halfword => 1,
-        Unit::Word => 0,
-        Unit::Two => 2,
-        Unit::Four => 6,
-        Unit::Eight => 14,
-        Unit::Sixteen => 30,
-    }
-}
-
 // The lines that a master drives for an operation; refusal 4 for an address not aligned to its unit.
 pub fn encode(op: Operation) -> Encoded
     ensures { λ r. ⌜ encodedAnswer r ≡ encodeOf op ⌝ }
 {
     let unit = op.unit;
     let address = op.address;
-    if address % bytes(unit) == 0 {
-        let ad = address + mark(unit);
+    let row = measured(unit);
+    if address % row.0 == 0 {
+        let ad = address + row.3;
         Encoded::By(Code {
             tm1: op.write,
-            tm0: is_byte(unit),
+            tm0: row.2,
             ad: ad,
         })
     } else {

@@ -1,5 +1,6 @@
 // The judge of recordings (document 01, "The judge"): its state, its tally and its verdict. The code that judges stands in the crate `judge`.
 ghost use mathlib.Core.Path.{_≡_};
+ghost use Rattle.rules.specs.State.{isOpen, freshWave, zeroTally};
 ghost use Rattle.rules.specs.Verdict.{freshAnswer, freshOf};
 
 // The transfer that is open before the next record, with its words, the strobes counted so far and its age in cycles.
@@ -82,6 +83,51 @@ pub enum Fresh {
     BadLimit,
 }
 
+// Whether a transfer is open.
+pub fn is_open(transfer: Transfer) -> bool
+    ensures { λ r. ⌜ r ≡ isOpen transfer ⌝ }
+{
+    match transfer {
+        Transfer::Idle => false,
+        Transfer::Open {
+            words: _,
+            strobes: _,
+            age: _,
+        } => true,
+    }
+}
+
+impl Wave {
+    // No wave, and no START of one since the reset.
+    pub fn fresh() -> Wave
+        ensures { λ r. ⌜ r ≡ freshWave ⌝ }
+    {
+        Wave {
+            rqst: false,
+            prior: false,
+            owned: false,
+            since: 3,
+            arb: 15,
+            turn: 0,
+        }
+    }
+}
+
+impl Tally {
+    // Nothing counted yet.
+    pub fn zero() -> Tally
+        ensures { λ r. ⌜ r ≡ zeroTally ⌝ }
+    {
+        Tally {
+            records: 0,
+            span: 0,
+            starts: 0,
+            acks: 0,
+            aborted: 0,
+        }
+    }
+}
+
 impl Judge {
     // "Watchdog 256 cycles", "Hold limit 1 to 16 STARTs a turn", and at most 2^30 records.
     pub const WATCHDOG: u16 = 256;
@@ -95,14 +141,7 @@ impl Judge {
         ensures { λ r. ⌜ freshAnswer r ≡ freshOf limit ⌝ }
     {
         if (1 <= limit) & (limit <= Judge::MOST_STARTS) {
-            let wave = Wave {
-                rqst: false,
-                prior: false,
-                owned: false,
-                since: 3,
-                arb: 15,
-                turn: 0,
-            };
+            let wave = Wave::fresh();
             let judge = Judge {
                 limit: limit,
                 seen: false,

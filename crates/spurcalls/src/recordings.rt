@@ -16,16 +16,6 @@ pub(crate) struct Bench {
     pub(crate) tally: Tally,
 }
 
-pub(crate) fn no_totals() -> Tally {
-    Tally {
-        records: 0,
-        span: 0,
-        starts: 0,
-        acks: 0,
-        aborted: 0,
-    }
-}
-
 // A judge of zeros, which the library would refuse.
 fn no_judge() -> Judge {
     let wave = Wave {
@@ -47,7 +37,7 @@ fn no_judge() -> Judge {
 
 // Before the first call: a fresh judge, limit 16, that the library makes, and a tally of zeros.
 pub(crate) fn first_bench() -> Bench {
-    let tally = no_totals();
+    let tally = Tally::zero();
     let made = Judge::fresh(16);
     let judge = match made {
         Fresh::Ready(ready) => ready,
@@ -64,7 +54,7 @@ pub(crate) fn fresh(call: &[u8; 64], out: &mut [u8; 64], bench: Bench) -> Bench 
     let made = Judge::fresh(call[1]);
     match made {
         Fresh::Ready(judge) => {
-            let tally = no_totals();
+            let tally = Tally::zero();
             Bench {
                 judge: judge,
                 tally: tally,
@@ -74,17 +64,6 @@ pub(crate) fn fresh(call: &[u8; 64], out: &mut [u8; 64], bench: Bench) -> Bench 
             out[0] = 3;
             bench
         }
-    }
-}
-
-fn is_open(transfer: Transfer) -> bool {
-    match transfer {
-        Transfer::Idle => false,
-        Transfer::Open {
-            words: _,
-            strobes: _,
-            age: _,
-        } => true,
     }
 }
 
@@ -147,7 +126,7 @@ pub(crate) fn judge(call: &[u8; 64], out: &mut [u8; 64], bench: Bench) -> Bench 
     let judge = judged.judge;
     let transfer = judge.transfer;
     put_verdict(out, verdict);
-    put_totals(out, tally, is_open(transfer));
+    put_totals(out, tally, rules::is_open(transfer));
     Bench {
         judge: judge,
         tally: tally,

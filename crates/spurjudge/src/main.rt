@@ -10,7 +10,6 @@ use rules::Fresh;
 use rules::Judge;
 use rules::Outcome;
 use rules::Tally;
-use rules::Transfer;
 use rules::Verdict;
 
 // The input so far: what its whole records came to, and how many bytes of a torn one stand at the front of the buffer.
@@ -115,17 +114,6 @@ fn read_more(buffer: &mut [u8], input: Input) -> Input
     }
 }
 
-fn is_open(transfer: Transfer) -> bool {
-    match transfer {
-        Transfer::Idle => false,
-        Transfer::Open {
-            words: _,
-            strobes: _,
-            age: _,
-        } => true,
-    }
-}
-
 fn print_count(name: &[u8], n: u64) -> bool {
     let named = io::write_all(STDOUT_FILENO, name);
     let counted = io::print_decimal(STDOUT_FILENO, n);
@@ -179,7 +167,7 @@ fn report(input: Input) {
     let transfer = state.transfer;
     let totals = end.tally;
     let verdict = end.verdict;
-    if print_totals(totals, is_open(transfer)) {
+    if print_totals(totals, rules::is_open(transfer)) {
         print_verdict(verdict);
     }
 }
@@ -188,13 +176,7 @@ fn report(input: Input) {
 fn judge_input(fresh: Judge) {
     let mut space = io::large_buffer();
     let buffer: &mut [u8] = &mut space;
-    let tally = Tally {
-        records: 0,
-        span: 0,
-        starts: 0,
-        acks: 0,
-        aborted: 0,
-    };
+    let tally = Tally::zero();
     let start = Outcome {
         verdict: Verdict::Conforming,
         judge: fresh,

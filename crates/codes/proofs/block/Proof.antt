@@ -2,6 +2,7 @@ use borrow.Author.Needs.{needs}
 use native.Mathlib.Nat.{mod-le}
 use mathlib.Core.Path.{_∙_, ap, sym}
 use Rattle.codes.specs.Start.{meaning}
+use Rattle.codes.proofs.Laws.{some-bytes}
 use Rattle.codes.proofs.block.Statement.{statement}
 use Rattle.codes.proofs.block.Tie as tie
 
@@ -11,11 +12,11 @@ block-length-requires c κs = search needs
 enum-known-unit : tie.Need-enum-known-unit
 enum-known-unit c = search needs
 
-bytes-requires : tie.Need-bytes-requires
-bytes-requires c κs = search needs
+measured-requires : tie.Need-measured-requires
+measured-requires c κs = search needs
 
 rem-low : tie.Need-rem-low
-rem-low c = search needs
+rem-low c = rw (c .before .measured .ensures) (some-bytes (c .before .before .before .unit .given .0 .0))
 
 sub-means : tie.Need-sub-means
 sub-means c = mod-le _ _
@@ -28,10 +29,10 @@ enum-told c = search needs
 
 returns : tie.Need-returns
 returns c =
-    let a = c .before .before .before .before .before .before .args in
+    let a = c .before .before .before .before .before .before .before .args in
     c .means .ensures
-    ∙ rw (c .before .bytes .ensures .0)
-    (ap (meaning (a .write) (a .ad)) (sym (c .before .before .before .unit .given .1) ∙ c .before .before .before .before .before .block-length .ensures))
+    ∙ rw (c .before .before .measured .ensures)
+    (ap (meaning (a .write) (a .ad)) (sym (c .before .before .before .before .unit .given .1) ∙ c .before .before .before .before .before .before .block-length .ensures))
 
 returns-2 : tie.Need-returns-2
 returns-2 c =
@@ -44,7 +45,7 @@ block-spec =
     (tie.spec
     block-length-requires
     enum-known-unit
-    bytes-requires
+    measured-requires
     rem-low
     sub-means
     means-requires

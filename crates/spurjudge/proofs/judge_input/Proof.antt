@@ -19,6 +19,9 @@ large-buffer-requires c κs = search needs
 slice-aggregate-buffer : tie.Need-slice-aggregate-buffer Inv-loop μ-loop
 slice-aggregate-buffer c = search needs
 
+zero-requires : tie.Need-zero-requires Inv-loop μ-loop
+zero-requires c κs = search needs
+
 loop-holds : tie.Need-loop-holds Inv-loop μ-loop
 loop-holds c = search needs
 
@@ -48,6 +51,7 @@ judge-input-spec =
     μ-loop
     large-buffer-requires
     slice-aggregate-buffer
+    zero-requires
     loop-holds
     read-more-requires
     sub-turns

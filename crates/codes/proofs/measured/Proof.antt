@@ -1,7 +1,9 @@
--- `codes::is_byte` meets its contract; with a file of its own, so that a wrong build is refused here. Assumes nothing.
+-- `codes::measured` meets its contract; with a file of its own, so that a wrong build is refused here. Assumes nothing.
 use borrow.Author.Needs.{needs}
-use Rattle.codes.proofs.is_byte.Statement.{statement}
-use Rattle.codes.proofs.is_byte.Tie as tie
+use mathlib.Core.Path.{ap, sym}
+use Rattle.codes.specs.Units.{measuresOf}
+use Rattle.codes.proofs.measured.Statement.{statement}
+use Rattle.codes.proofs.measured.Tie as tie
 
 enum-told : tie.Need-enum-told
 enum-told c = search needs
@@ -25,28 +27,28 @@ enum-told-7 : tie.Need-enum-told-7
 enum-told-7 c = search needs
 
 returns : tie.Need-returns
-returns c = search needs
+returns c = ap measuresOf (sym (c .enum-told .given .1))
 
 returns-2 : tie.Need-returns-2
-returns-2 c = search needs
+returns-2 c = ap measuresOf (sym (c .enum-told2 .given .1))
 
 returns-3 : tie.Need-returns-3
-returns-3 c = search needs
+returns-3 c = ap measuresOf (sym (c .enum-told3 .given .1))
 
 returns-4 : tie.Need-returns-4
-returns-4 c = search needs
+returns-4 c = ap measuresOf (sym (c .enum-told4 .given .1))
 
 returns-5 : tie.Need-returns-5
-returns-5 c = search needs
+returns-5 c = ap measuresOf (sym (c .enum-told5 .given .1))
 
 returns-6 : tie.Need-returns-6
-returns-6 c = search needs
+returns-6 c = ap measuresOf (sym (c .enum-told6 .given .1))
 
 returns-7 : tie.Need-returns-7
-returns-7 c = search needs
+returns-7 c = ap measuresOf (sym (c .enum-told7 .given .1))
 
-pub is-byte-spec : {M : Type 1} → statement M
-is-byte-spec =
+pub measured-spec : {M : Type 1} → statement M
+measured-spec =
     tie.close
     (tie.spec
     enum-told
