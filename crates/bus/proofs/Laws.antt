@@ -1,7 +1,7 @@
 -- The cases of `cycle`'s definitions, as the code's branches ask for them. Assumes nothing.
 use Prim.Native.Nat.{ℕ, zero, suc, _+_, _-_, _<_, _≤_}
 use mathlib.Core.Path.{_≡_, refl, sym, ap, _∙_}
-use mathlib.Core.Bool.{Bool, true, false, cond, _&&_, true≢false}
+use mathlib.Core.Bool.{Bool, true, false, cond, not, _&&_, true≢false}
 use mathlib.Core.List.{List}
 use native.Mathlib.Omega.{arith}
 use native.Mathlib.Decide.{ℕ-discrete}
@@ -62,22 +62,15 @@ module _ (i wants : ℕ) (words : List ℕ) where
   unfolding attends
   attends-unwanted m = rw m
 
-module _ (b : Bus) (h wants holds : ℕ) (words : List ℕ) where
-  pub start-unheld : mem h holds ≡ false → starting b h wants holds words ≡ leaves b h
+-- m and a are what the code found: the highest member holds, and makes an attention cycle
+module _ (b : Bus) (h wants holds : ℕ) (words : List ℕ) {m a : Bool} (held : m ≡ mem h holds) (attending : a ≡ attends h wants words) where
+  pub start-stays : (m && not a && ltb (b .turn + 1) (b .limit)) ≡ true → starting b h wants holds words ≡ stays b h
   unfolding starting
-  start-unheld m = rw (m, starting)
+  start-stays e = rw (← held, ← attending, e)
 
-  pub start-attention : mem h holds ≡ true → attends h wants words ≡ true → starting b h wants holds words ≡ leaves b h
+  pub start-leaves : (m && not a && ltb (b .turn + 1) (b .limit)) ≡ false → starting b h wants holds words ≡ leaves b h
   unfolding starting
-  start-attention m a = rw (m, a, starting)
-
-  pub start-last : mem h holds ≡ true → attends h wants words ≡ false → b .limit ≤ b .turn + 1 → starting b h wants holds words ≡ leaves b h
-  unfolding starting
-  start-last m a l = rw (m, a, le-ltb (b .turn + 1) (b .limit) l, starting)
-
-  pub start-again : mem h holds ≡ true → attends h wants words ≡ false → b .turn + 1 < b .limit → starting b h wants holds words ≡ stays b h
-  unfolding starting
-  start-again m a l = rw (m, a, lt-ltb (b .turn + 1) (b .limit) l, starting)
+  start-leaves e = rw (← held, ← attending, e)
 
 module _ (b : Bus) (wants holds : ℕ) (words : List ℕ) where
   pub arb-form : b .wave ≡ 0 → arbitrationOf (b .transfer) b wants holds words ≡ forming (b .transfer) (b .owner) b wants
@@ -226,13 +219,9 @@ module _ (b : Bus) (reset : Bool) (e : Event) (len : ℕ) (s : Sets) where
   unfolding stepOf
   step-words p n w = rw (p, eq-eqb len 16 n, w)
 
-  pub step-reset : inBounds b ≡ true → len ≡ 16 → lawfulWords (s .words) ≡ true → reset ≡ true → answerBy ≡ accepted (resetOf b)
+  pub step-moves : inBounds b ≡ true → len ≡ 16 → lawfulWords (s .words) ≡ true → answerBy ≡ accepted (cond reset (resetOf b) (cycleOf b e (s .wants) (s .holds) (s .words)))
   unfolding stepOf
-  step-reset p n w r = rw (p, eq-eqb len 16 n, w, r)
-
-  pub step-cycle : inBounds b ≡ true → len ≡ 16 → lawfulWords (s .words) ≡ true → reset ≡ false → answerBy ≡ accepted (cycleOf b e (s .wants) (s .holds) (s .words))
-  unfolding stepOf
-  step-cycle p n w r = rw (p, eq-eqb len 16 n, w, r)
+  step-moves p n w = rw (p, eq-eqb len 16 n, w)
 
   -- over sets alone the table counts as sixteen long
   pub step-sixteen : len ≡ 16 → answerBy ≡ stepSetsOf b reset e s

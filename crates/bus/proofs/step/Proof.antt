@@ -1,4 +1,4 @@
--- `bus::step` meets its contract: a walk of its MIR, by hand. The table is passed to `gather`, and what it comes to goes with the state, the
+-- `bus::step` meets its contract: a walk of its MIR, by hand. The table is passed to `nodes::gather`, and what it comes to goes with the state, the
 -- reset flag, the event and the table's length to `step_table`. All that the proof knows of the two is that each meets its contract.
 -- Assumes nothing.
 use mathlib.Core.Path.{_≡_, refl, _∙_}
@@ -58,10 +58,10 @@ use Rattle.cycle.proofs.Sets.Laws as S′
 use Rattle.cycle.proofs.Stepped as R
 use Rattle.cycle.proofs.Stepped.Laws as R′
 use Rattle.bus.proofs.Laws.{answerBy, step-gathered}
-use Rattle.bus.proofs.gather as gather
-use Rattle.bus.proofs.gather.Symbol as gather-def
-use Rattle.bus.proofs.gather.Symbol.{name as #bus·gather}
-use Rattle.bus.proofs.gather.Met as gather-thm
+use Rattle.nodes.proofs.gather as gather
+use Rattle.nodes.proofs.gather.Symbol as gather-def
+use Rattle.nodes.proofs.gather.Symbol.{name as #nodes·gather}
+use Rattle.nodes.proofs.gather.Met as gather-thm
 use Rattle.bus.proofs.step_table as table
 use Rattle.bus.proofs.step_table.Symbol as table-def
 use Rattle.bus.proofs.step_table.Symbol.{name as #bus·step-table}
@@ -155,7 +155,7 @@ module _ {M : Type 1} (𝓤 : URA M) (H : Heap 𝓤) (A : Atoms 𝓤) (W : Given
       owned ! Boolean (Is Boolean) (bool-makes 𝓤 H A W) reset _ refl $ fjoin ! $
       owned ! B.the-row (Is B.the-row) (LL.makes B.the-type B′.the-plain 𝓤 H A) b _ b-is $ fjoin ! $ frame ! $ done !
 
-  module _ (C : Calls 𝓤 H) (Λ : Loops 𝓤 H) (fm : FmC 𝓤 H (W .laws) C) (known-gather : Triple 𝓤 (C #bus·gather) (Gather 𝓤 H A mem run)) (known-table : Triple 𝓤 (C #bus·step-table) (Table 𝓤 H A mem run)) (l₀ l₁ l₂ l₃ l₄ l₅ l₆ : ℕ) where
+  module _ (C : Calls 𝓤 H) (Λ : Loops 𝓤 H) (fm : FmC 𝓤 H (W .laws) C) (known-gather : Triple 𝓤 (C #nodes·gather) (Gather 𝓤 H A mem run)) (known-table : Triple 𝓤 (C #bus·step-table) (Table 𝓤 H A mem run)) (l₀ l₁ l₂ l₃ l₄ l₅ l₆ : ℕ) where
     abbrev En : Env 𝓤 H
     En = (R′.mir, l₀) ∷ (B′.mir, l₁) ∷ (tyBool, l₂) ∷ (E′.mir, l₃) ∷ (slice, l₄) ∷ (word, l₅) ∷ (S′.mir, l₆) ∷ []
 
@@ -187,7 +187,7 @@ module _ {M : Type 1} (𝓤 : URA M) (H : Heap 𝓤) (A : Atoms 𝓤) (W : Given
         move ! (9 ∷ 10 ∷ []) $ free1 ! $ move ! (8 ∷ 9 ∷ []) $ free1 ! $ move ! (7 ∷ 8 ∷ []) $ free1 ! $ move ! (6 ∷ 7 ∷ []) $ free1 ! $ move ! (5 ∷ 6 ∷ []) $ free1 ! $ move ! (4 ∷ 5 ∷ []) $ free1 ! $ move ! (3 ∷ 4 ∷ []) $ free1 ! $ free0 ! $
         by ! (exits t w (p′ ∙ step-gathered b reset e ys r p))))))))))
 
-  walk : (C : Calls 𝓤 H) (Λ : Loops 𝓤 H) (fm : FmC 𝓤 H (W .laws) C) → Triple 𝓤 (C #bus·gather) (Gather 𝓤 H A mem run) → Triple 𝓤 (C #bus·step-table) (Table 𝓤 H A mem run)
+  walk : (C : Calls 𝓤 H) (Λ : Loops 𝓤 H) (fm : FmC 𝓤 H (W .laws) C) → Triple 𝓤 (C #nodes·gather) (Gather 𝓤 H A mem run) → Triple 𝓤 (C #bus·step-table) (Table 𝓤 H A mem run)
       → Is (ShrSlice (named 0) κ N.the-row) s (v ∷ []) → ent 𝓤 (onEntry 𝓤 H A f.signature (κ, tt) (q, tt) x at) (WpFn 𝓤 H C Λ code.function (of-bus b ∷ vbool reset ∷ of-event e ∷ v ∷ []) Post)
   walk C Λ fm known-gather known-table s-is =
       qed W ((‵ (flft κ q) ⊛ ‵ ftrue) ∷ ‵ (owns (B.the-row ∷ Boolean ∷ E.the-row ∷ ShrSlice (named 0) κ N.the-row ∷ []) x at) ∷ []) ∵ enter ! C Λ code.function (of-bus b ∷ vbool reset ∷ of-event e ∷ v ∷ []) Post $
@@ -198,7 +198,7 @@ module _ {M : Type 1} (𝓤 : URA M) (H : Heap 𝓤) (A : Atoms 𝓤) (W : Given
       -- [slice; true; room _6; d; room _5; d; _4; d; _3; d; _2; d; _1; d; room _0; d; token]
       keep ! (2 ∷ 4 ∷ 6 ∷ 8 ∷ 10 ∷ 12 ∷ 14 ∷ 16 ∷ 0 ∷ 15 ∷ 13 ∷ 11 ∷ 9 ∷ 7 ∷ 5 ∷ 3 ∷ []) $ runs-on C Λ fm known-gather known-table l₀ l₁ l₂ l₃ l₄ l₅ l₆ (s-is .0 .1 .0))))))))
 
-module _ {M : Type 1} (𝓤 : URA M) (H : Heap 𝓤) (A : Atoms 𝓤) (W : Given 𝓤 H A) (mem : Memory → SProp 𝓤) (run : Routine → Fun 𝓤) (𝓣 : Tables 𝓤 H) (known-gather : Triple 𝓤 (𝓣 .C #bus·gather) (Gather 𝓤 H A mem run)) (known-table : Triple 𝓤 (𝓣 .C #bus·step-table) (Table 𝓤 H A mem run)) where
+module _ {M : Type 1} (𝓤 : URA M) (H : Heap 𝓤) (A : Atoms 𝓤) (W : Given 𝓤 H A) (mem : Memory → SProp 𝓤) (run : Routine → Fun 𝓤) (𝓣 : Tables 𝓤 H) (known-gather : Triple 𝓤 (𝓣 .C #nodes·gather) (Gather 𝓤 H A mem run)) (known-table : Triple 𝓤 (𝓣 .C #bus·step-table) (Table 𝓤 H A mem run)) where
   step-walks : Walks 𝓤 H A f.ended stayed (WpFn 𝓤 H (𝓣 .C) (𝓣 .Λ) code.function) (f.clauses 𝓤 H A mem run)
   step-walks = walked 𝓤 H A f.ended stayed (f.clauses 𝓤 H A mem run) (WpFn 𝓤 H (𝓣 .C) (𝓣 .Λ) code.function)
       (λ κs. (LL.vals B.the-type B′.the-laws, (bool-vals, (EL.vals E.the-type E′.the-laws, (slice-vals, tt)))))
@@ -218,5 +218,5 @@ step-spec 𝓤 H 𝓜 𝓖 𝓡 =
     entered 𝓤 H (tripleOf 𝓤 H (𝓖 .A) f.signature (f.spec 𝓤 H (𝓖 .A) (𝓜 .mem) (𝓡 .run)))
     (tables 𝓤 H 𝓜 𝓡 code.env .C) (tables 𝓤 H 𝓜 𝓡 code.env .Λ) #bus·step code.function (code.unfolded 𝓤 H 𝓜 𝓡)
     (step-meets 𝓤 H (𝓖 .A) (givenOf 𝓤 H 𝓜 𝓖) (𝓜 .mem) (𝓡 .run) (tablesOf 𝓤 H 𝓜 (tables 𝓤 H 𝓜 𝓡 code.env))
-    (cited 𝓤 H (Gather 𝓤 H (𝓖 .A) (𝓜 .mem) (𝓡 .run)) 𝓜 𝓡 code.env #bus·gather gather-def.routine code.calls-bus·gather (gather-thm.met 𝓤 H 𝓜 𝓖 𝓡))
+    (cited 𝓤 H (Gather 𝓤 H (𝓖 .A) (𝓜 .mem) (𝓡 .run)) 𝓜 𝓡 code.env #nodes·gather gather-def.routine code.calls-nodes·gather (gather-thm.met 𝓤 H 𝓜 𝓖 𝓡))
     (cited 𝓤 H (Table 𝓤 H (𝓖 .A) (𝓜 .mem) (𝓡 .run)) 𝓜 𝓡 code.env #bus·step-table table-def.routine code.calls-bus·step-table (table-thm.met 𝓤 H 𝓜 𝓖 𝓡)))
