@@ -1,7 +1,7 @@
 -- Laws of a call: refused or judged, and what its caller is told of the recording. Assumes nothing.
 use Prim.Native.Nat.{ℕ, _+_, _/_, _^_, _≤_}
 use mathlib.Core.List.{List}
-use mathlib.Core.Path.{_≡_, refl, sym, ap, subst, _∙_}
+use mathlib.Core.Path.{_≡_, sym, ap, subst, _∙_}
 use lib.ListN.{length}
 use Rattle.rules.specs.declared.Judge.{Judge}
 use Rattle.rules.specs.declared.Tally.{Tally}

@@ -1,11 +1,10 @@
 -- Laws of the quick way: where its tests hold, the record keeps every rule and leaves the state that it gives. Assumes nothing.
-use Prim.Native.Nat.{ℕ, _+_, _^_, _≤_, _<_}
+use Prim.Native.Nat.{ℕ, _+_, _≤_}
 use mathlib.Core.Bool.{Bool, true, false, not, cond, _&&_, _||_, false≢true, true≢false}
-use mathlib.Core.List.{List, [], _∷_}
 use mathlib.Core.Path.{_≡_, refl, sym, ap, subst, _∙_}
 use native.Mathlib.Omega.{arith}
 use lib.Dec.{leb, ltb, eqb}
-use borrow.Author.Tests.{eq-eqb, eqb-true, ltb-true, leb-true, le-leb, lt-ltb, ltb-false, le-ltb}
+use borrow.Author.Tests.{eq-eqb, eqb-true, ltb-true, leb-true, le-leb, ltb-false, le-ltb}
 use Rattle.basics.specs.Lines.{one}
 use Rattle.basics.specs.Numbers.{watchdog}
 use Rattle.basics.specs.Order.{implies}
@@ -17,8 +16,8 @@ use Rattle.rules.specs.declared.Tally.{Tally}
 use Rattle.rules.specs.declared.Wave.{Wave}
 use Rattle.rules.specs.declared.Transfer.{Transfer}
 use Rattle.rules.specs.declared.Transfer.the-variants.{Idle, Open}
-use Rattle.rules.specs.Rules.{strobe, rule3, rule4, rule5, rule6, rule7, rule8, rule9, rule10, rule11, rule12, rule13, rule13a, rule13b}
-use Rattle.rules.specs.State.{isOpen, openWords, openStrobes, openAge, agedOf, transferOf, askedOf, twiceOf, capped, waveOf, movedOf, tallyOf}
+use Rattle.rules.specs.Rules.{strobe, rule5, rule6, rule8, rule9, rule10, rule11, rule12, rule13, rule13a, rule13b}
+use Rattle.rules.specs.State.{isOpen, openWords, openStrobes, openAge, agedOf, transferOf, askedOf, twiceOf, capped, waveOf, tallyOf}
 use Rattle.rules.specs.Run.{laterRules, from, stepOf}
 use Rattle.rules.proofs.Laws.{AllHold}
 use Rattle.judge.specs.Quick.{WaveKept, Plain, waitedOf, startedOf, turnHolds, startHolds, requestHolds, ackHolds, quietHolds, StartKept, AckKept, QuietKept}

@@ -1,22 +1,21 @@
 -- Laws of the loops over a recording: what is left to judge leads to the same end. Assumes nothing.
 use Prim.Native.Nat.{ℕ, suc, _+_, _-_, _*_, _/_, _^_, _≤_, _<_}
-use mathlib.Core.Bool.{Bool, true, false}
 use mathlib.Core.List.{List}
 use mathlib.Core.Path.{_≡_, refl, sym, ap, subst, _∙_}
 use native.Mathlib.Omega.{arith}
 use native.Mathlib.Nat.{sub-zero}
 use lib.ListN.{length, take, drop, length-drop}
 use lib.Seq.{take-all, drop-drop}
-use Rattle.record.specs.Layout.{recordIn, spareIn}
+use Rattle.record.specs.Packing.{linesOf, spareOf}
 use Rattle.record.specs.declared.Record.{Record}
 use Rattle.rules.specs.declared.Judge.{Judge}
 use Rattle.rules.specs.declared.Tally.{Tally}
 use Rattle.rules.specs.declared.Progress.{Progress}
 use Rattle.rules.specs.Bounds.{SoundJudge, SoundTally}
-use Rattle.rules.specs.Run.{Taken, takenIn, recordsIn, from, stepOf, nextOf, runOf}
+use Rattle.rules.specs.Run.{Taken, takenIn, recordsIn, from, stepOf, runOf}
 use Rattle.rules.proofs.Laws.{SoundProgress, next-open, run-stopped, step-sound, arb-le}
 use Rattle.judge.specs.Quick.{Ready, Left}
-use Rattle.judge.specs.declared.Reached.{Reached}
+use Rattle.judge.specs.declared.quick.Reached.{Reached}
 use Rattle.judge.proofs.Steps.{taken-of, step-ready}
 
 -- the part of a slice from a place on, as the code lends it
@@ -27,11 +26,11 @@ rest-is xs at = take-all (length xs - at) (drop at xs) (simp length-drop (omega 
 abbrev pub recordAt : List ℕ → ℕ → Taken
 recordAt s i = takenIn (take 16 (drop (i * 16) s))
 
-pub record-of : (s : List ℕ) (i : ℕ) (lines : Record) (spare : ℕ) → lines ≡ recordIn (take 16 (take (length s - i * 16) (drop (i * 16) s))) → spare ≡ spareIn (take 16 (take (length s - i * 16) (drop (i * 16) s)))
+pub record-of : (s : List ℕ) (i : ℕ) (lines : Record) (spare : ℕ) → i < length s / 16 → lines ≡ linesOf (take (length s - i * 16) (drop (i * 16) s)) → spare ≡ spareOf (take (length s - i * 16) (drop (i * 16) s))
     → _≡_ {A = Taken} (record { lines = lines; spare = spare }) (recordAt s i)
-record-of s i lines spare e f =
+record-of s i lines spare lt e f =
     let r = rest-is s (i * 16) in
-    taken-of (take 16 (drop (i * 16) s)) lines spare (e ∙ ap (λ (x : List ℕ). recordIn (take 16 x)) r) (f ∙ ap (λ (x : List ℕ). spareIn (take 16 x)) r)
+    taken-of (drop (i * 16) s) lines spare (simp length-drop (omega arith)) (e ∙ ap linesOf r) (f ∙ ap spareOf r)
 
 pub part-record : (s : List ℕ) (i : ℕ) (k : Judge) (u : Tally) (p : Progress) → p ≡ stepOf k u (takenIn (take 16 (take (length s - i * 16) (drop (i * 16) s)))) → p ≡ stepOf k u (recordAt s i)
 part-record s i k u p e = e ∙ ap (λ (x : List ℕ). stepOf k u (takenIn (take 16 x))) (rest-is s (i * 16))

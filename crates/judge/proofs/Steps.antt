@@ -1,35 +1,39 @@
 -- Laws of one record judged, over plain values. Assumes nothing.
 use Prim.Native.Nat.{ℕ, _+_, _^_, _≤_, _<_}
-use mathlib.Core.Bool.{Bool, true, false, not, cond, _&&_, _||_, false≢true}
+use mathlib.Core.Bool.{Bool, true, false, not, cond, _&&_, false≢true}
 use mathlib.Core.List.{List, [], _∷_}
 use mathlib.Core.Path.{_≡_, refl, sym, ap, subst, _∙_}
 use native.Mathlib.Omega.{arith}
 use lib.Dec.{leb, ltb, eqb}
-use borrow.Author.Tests.{eq-eqb, ne-eqb, eqb-true, eqb-false, ltb-true, leb-true, le-leb}
+use borrow.Author.Tests.{eqb-true, eqb-false, ltb-true, leb-true, le-leb, le-ltb}
 use Rattle.basics.specs.Order.{unless, implies}
 use Rattle.basics.proofs.Bools.{choice, cond-true, cond-false, by-test, and-both, both-and}
 use Rattle.record.specs.declared.Record.{Record}
-use Rattle.record.specs.Layout.{recordIn, spareIn}
+use lib.ListN.{length, take}
+use Rattle.record.specs.Layout.{recordIn}
+use Rattle.record.specs.Packing.{linesOf, spareOf, tooFew}
 use Rattle.codes.specs.Parity.{parityOf}
 use Rattle.rules.specs.declared.Judge.{Judge}
 use Rattle.rules.specs.declared.Tally.{Tally}
 use Rattle.rules.specs.declared.Wave.{Wave}
 use Rattle.rules.specs.declared.Progress.{Progress}
-use Rattle.rules.specs.Rules.{rule1, rule2, rule3}
-use Rattle.rules.specs.State.{isOpen, askedOf, capped, waveOf, diffOf, resetOf, movedOf, judgeOf, tallyOf}
+use Rattle.rules.specs.Rules.{rule3}
+use Rattle.rules.specs.State.{isOpen, askedOf, waveOf, diffOf, resetOf, movedOf, judgeOf, tallyOf}
 use Rattle.rules.specs.Bounds.{SoundJudge, SoundTally}
 use Rattle.rules.specs.Run.{Taken, takenIn, lowest, laterRules, ruleOf, from, stepOf}
-use Rattle.rules.proofs.Laws.{AllHold, after, step-good, step-bad, step-sound}
+use Rattle.rules.proofs.Laws.{AllHold, step-good, step-bad, step-sound}
 use Rattle.judge.specs.Quick.{WaveKept, Ready, Plain, plainly}
 
 pub not-holds : (a : Bool) → not a ≡ true → a ≡ false
 not-holds true e = absurd (false≢true e)
 not-holds false e = refl
 
--- a record as the code reads it
-pub taken-of : (bs : List ℕ) (lines : Record) (spare : ℕ) → lines ≡ recordIn bs → spare ≡ spareIn bs → _≡_ {A = Taken} (record { lines = lines; spare = spare }) (takenIn bs)
-taken-of bs lines spare e f =
-    ap (λ (x : Record). record { lines = x; spare = spare }) e ∙ ap (λ (n : ℕ). record { lines = recordIn bs; spare = n }) f
+-- a record as the code reads it: sixteen bytes are there
+pub taken-of : (s : List ℕ) (lines : Record) (spare : ℕ) → 16 ≤ length s → lines ≡ linesOf s → spare ≡ spareOf s → _≡_ {A = Taken} (record { lines = lines; spare = spare }) (takenIn (take 16 s))
+unfolding linesOf spareOf tooFew
+taken-of s lines spare h e f =
+    let few = le-ltb (length s) 16 h in
+    ap (λ (x : Record). record { lines = x; spare = spare }) (e ∙ cond-false _ _ few) ∙ ap (λ (n : ℕ). record { lines = recordIn (take 16 s); spare = n }) (f ∙ cond-false _ _ few)
 
 -- ---- a record judged rule by rule, as the code has it
 pub step-breach : (j : Judge) (t : Tally) (r : Taken) (d rule : ℕ) → d ≡ diffOf j (r .lines .stamp) → rule ≡ ruleOf j r d → (rule ≡ 0 → ⊥) → record { rule = rule; judge = j; tally = t } ≡ stepOf j t r
@@ -37,14 +41,13 @@ step-breach j t r d rule ed er ne =
     let e = er ∙ ap (ruleOf j r) ed in
     ap (λ (n : ℕ). record { rule = n; judge = j; tally = t }) e ∙ sym (step-bad j t r (λ z. ne (e ∙ z)))
 
-pub step-moves : (j : Judge) (t : Tally) (r : Taken) (d rule : ℕ) (busy : Bool) (u : Tally) (k : Judge) → d ≡ diffOf j (r .lines .stamp) → rule ≡ ruleOf j r d → rule ≡ 0 → busy ≡ isOpen (j .transfer)
-    → u ≡ tallyOf t busy (r .lines .reset) (r .lines .start) (r .lines .ack) d → k ≡ judgeOf j (r .lines) d → record { rule = 0; judge = k; tally = u } ≡ stepOf j t r
-step-moves j t r d rule busy u k ed er ez eb eu ek =
-    let z = sym (ap (ruleOf j r) ed) ∙ sym er ∙ ez in
-    let tally : u ≡ tallyOf t (isOpen (j .transfer)) (r .lines .reset) (r .lines .start) (r .lines .ack) (diffOf j (r .lines .stamp)) =
-    eu ∙ ap (λ (b : Bool). tallyOf t b (r .lines .reset) (r .lines .start) (r .lines .ack) d) eb ∙ ap (λ (n : ℕ). tallyOf t (isOpen (j .transfer)) (r .lines .reset) (r .lines .start) (r .lines .ack) n) ed in
-    let judge : k ≡ judgeOf j (r .lines) (diffOf j (r .lines .stamp)) = ek ∙ ap (λ (n : ℕ). judgeOf j (r .lines) n) ed in
-    ap (λ (x : Judge). record { rule = 0; judge = x; tally = u }) judge ∙ ap (λ (x : Tally). record { rule = 0; judge = judgeOf j (r .lines) (diffOf j (r .lines .stamp)); tally = x }) tally ∙ sym (step-good j t r z)
+pub step-moves : (j : Judge) (t : Tally) (r : Taken) (d rule : ℕ) (k : Judge) → d ≡ diffOf j (r .lines .stamp) → rule ≡ ruleOf j r d → rule ≡ 0 → k ≡ judgeOf j (r .lines) d
+    → from k (tallyOf t (isOpen (j .transfer)) (r .lines .reset) (r .lines .start) (r .lines .ack) d) ≡ stepOf j t r
+step-moves j t r d rule k ed er ez ek =
+    ap (λ (x : Judge). from x (totals d)) ek ∙ ap (λ (n : ℕ). from (judgeOf j (r .lines) n) (totals n)) ed ∙ sym (step-good j t r (sym (ap (ruleOf j r) ed) ∙ sym er ∙ ez))
+  where
+    totals : ℕ → Tally
+    totals n = tallyOf t (isOpen (j .transfer)) (r .lines .reset) (r .lines .start) (r .lines .ack) n
 
 pub judge-reset : (j : Judge) (r : Record) (d : ℕ) → r .reset ≡ true → resetOf j (r .stamp) ≡ judgeOf j r d
 unfolding judgeOf
@@ -108,8 +111,7 @@ none-broken j t r d p a =
 pub step-kept : (j : Judge) (t : Tally) (r : Record) (d : ℕ) → Plain j t r d → AllHold (laterRules j r d)
     → from (movedOf j r d) (tallyOf t (isOpen (j .transfer)) (r .reset) (r .start) (r .ack) d) ≡ stepOf j t (record { lines = r; spare = 0 })
 step-kept j t r d p a =
-    let taken : Taken = record { lines = r; spare = 0 } in
-    step-moves j t taken d 0 (isOpen (j .transfer)) (tallyOf t (isOpen (j .transfer)) (r .reset) (r .start) (r .ack) d) (movedOf j r d) (p .apart) (sym (none-broken j t r d p a)) refl refl refl (judge-moved j r d (p .alive))
+    step-moves j t (record { lines = r; spare = 0 }) d 0 (movedOf j r d) (p .apart) (sym (none-broken j t r d p a)) refl (judge-moved j r d (p .alive))
 
 -- ---- the quick way's first tests
 pub plain-is : (j : Judge) (t : Tally) (r : Record) (spare d : ℕ) (odd right ok : Bool) → Ready j t → t .records < 2 ^ 30 → d ≡ diffOf j (r .stamp) → odd ≡ parityOf (r .ad) → right ≡ rule3 (r .spv) (r .sp) odd → ok ≡ plainly spare d (r .reset) right → ok ≡ true

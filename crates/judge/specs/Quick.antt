@@ -23,7 +23,7 @@ use Rattle.rules.specs.Bounds.{SoundJudge, SoundTally}
 use Rattle.rules.specs.Run.{from, runOf, recordsIn}
 use Rattle.rules.specs.declared.Outcome.{Outcome}
 use Rattle.rules.specs.Verdict.{judgedOf}
-use Rattle.judge.specs.declared.Reached.{Reached}
+use Rattle.judge.specs.declared.quick.Reached.{Reached}
 use Rattle.judge.specs.declared.Call.{Call}
 
 -- what every record leaves of the wave: where RQST is inactive, nothing of one

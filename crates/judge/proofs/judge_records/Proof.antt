@@ -2,11 +2,10 @@
 use native.Mathlib.Omega.{arith}
 use Prim.Native.Nat.{ℕ, _-_, _*_, _+_}
 use mathlib.Core.List.{List}
-use mathlib.Core.Path.{_≡_, subst}
-use lib.ListN.{length, length-take, length-drop}
+use mathlib.Core.Path.{subst}
+use lib.ListN.{length-take, length-drop}
 use Rattle.judge.specs.Quick.{Left}
 use Rattle.judge.proofs.Runs.{rest-is, part-record, Going, going-starts, going-stops, going-ready, going-again, going-ends}
-use borrow.Author.Needs.{needs}
 use Rattle.judge.proofs.judge_records.Statement.{statement}
 use Rattle.judge.proofs.judge_records.Tie as tie
 
@@ -43,8 +42,8 @@ returns c = let l = c .before .before .before .before .before .loop in
     let bytes = c .before .before .before .before .before .before .before .args .bytes .now in
     going-stops bytes _ _ _ (l .state) (l .totals) (l .i) (one .result) (l .inv) (c .before .before .before .before .loop-test .taken) (part-record bytes (l .i) (l .state) (l .totals) (one .result) (one .ensures)) (c .if1 .taken)
 
-add-after : tie.Need-add-after Inv-loop μ-loop
-add-after c = let w = c .before .before .before .before .before .loop .inv .whole in omega arith
+add-rest : tie.Need-add-rest Inv-loop μ-loop
+add-rest c = let w = c .before .before .before .before .before .loop .inv .whole in omega arith
 
 sub-quick-run : tie.Need-sub-quick-run Inv-loop μ-loop
 sub-quick-run c = let w = c .before .before .before .before .before .before .before .loop .inv .whole in omega arith
@@ -65,29 +64,26 @@ quick-run-requires c κs = let l = c .before .before .before .before .before .be
 add-i : tie.Need-add-i Inv-loop μ-loop
 add-i c = let start = c .before .before .before .before .before .before .before .before .before .before .before .before .before in let w = c .before .before .before .before .before .before .before .before .before .before .before .loop .inv .whole in let lt = c .before .before .before .before .before .before .before .before .before .before .loop-test .taken in omega arith
 
-add-i-2 : tie.Need-add-i-2 Inv-loop μ-loop
-add-i-2 c = let l = c .before .before .before .before .before .before .before .before .before .before .before .before .loop in
-    let one = c .before .before .before .before .before .before .before .before .before .judge-one in
-    let bytes = c .before .before .before .before .before .before .before .before .before .before .before .before .before .before .args .bytes .now in
+loop-again : tie.Need-loop-again Inv-loop μ-loop
+loop-again c =
     let run = c .before .before .before .quick-run in
-    let step = part-record bytes (l .i) (l .state) (l .totals) (one .result) (one .ensures) in
-    let g = going-again bytes _ _ _ (l .state) (l .totals) (l .i) (one .result) (run .result) (l .inv) (c .before .before .before .before .before .before .before .before .before .before .before .loop-test .taken) step (c .before .before .before .before .before .before .before .if1 .left) (subst (λ (x : List ℕ). Left x (one .result .judge) (one .result .tally) (run .result)) (rest-is bytes (l .i * 16 + 16)) (run .ensures)) in
-    let start = c .before .before .before .before .before .before .before .before .before .before .before .before .before .before in
+    let b = c .before .before .before .before .before .before .before in
+    let one = b .before .before .judge-one in
+    let l = b .before .before .before .before .before .loop in
+    let bytes = b .before .before .before .before .before .before .before .args .bytes .now in
+    going-again bytes _ _ _ (l .state) (l .totals) (l .i) (one .result) (run .result) (l .inv) (b .before .before .before .before .loop-test .taken)
+    (part-record bytes (l .i) (l .state) (l .totals) (one .result) (one .ensures)) (b .if1 .left)
+    (subst (λ (x : List ℕ). Left x (one .result .judge) (one .result .tally) (run .result)) (rest-is bytes (l .i * 16 + 16)) (run .ensures))
+
+add-i-2 : tie.Need-add-i-2 Inv-loop μ-loop
+add-i-2 c = let start = c .before .before .before .before .before .before .before .before .before .before .before .before .before .before in
+    let g = loop-again c in
     let w = g .whole in
     let le = g .le in
     omega arith
 
 loop-less : tie.Need-loop-less Inv-loop μ-loop
 loop-less c = let lt = c .before .before .before .before .before .before .before .before .before .before .before .loop-test .taken in omega arith
-
-loop-again : tie.Need-loop-again Inv-loop μ-loop
-loop-again c = let l = c .before .before .before .before .before .before .before .before .before .before .before .before .loop in
-    let one = c .before .before .before .before .before .before .before .before .before .judge-one in
-    let bytes = c .before .before .before .before .before .before .before .before .before .before .before .before .before .before .args .bytes .now in
-    let run = c .before .before .before .quick-run in
-    let step = part-record bytes (l .i) (l .state) (l .totals) (one .result) (one .ensures) in
-    let g = going-again bytes _ _ _ (l .state) (l .totals) (l .i) (one .result) (run .result) (l .inv) (c .before .before .before .before .before .before .before .before .before .before .before .loop-test .taken) step (c .before .before .before .before .before .before .before .if1 .left) (subst (λ (x : List ℕ). Left x (one .result .judge) (one .result .tally) (run .result)) (rest-is bytes (l .i * 16 + 16)) (run .ensures)) in
-    g
 
 returns-2 : tie.Need-returns-2 Inv-loop μ-loop
 returns-2 c = going-ends _ _ _ _ _ _ _ (c .before .loop .inv) (c .loop-test .left)
@@ -105,7 +101,7 @@ judge-records-spec =
     part-judge-one-end
     judge-one-requires
     returns
-    add-after
+    add-rest
     sub-quick-run
     part-quick-run-start
     part-quick-run-end

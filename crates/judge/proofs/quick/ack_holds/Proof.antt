@@ -1,0 +1,45 @@
+-- `judge::quick::ack_holds` meets its contract. Assumes nothing.
+use borrow.Author.Needs.{needs}
+use Rattle.judge.proofs.quick.ack_holds.Statement.{statement}
+use Rattle.judge.proofs.quick.ack_holds.Tie as tie
+
+enum-told : tie.Need-enum-told
+enum-told c = search needs
+
+enum-known-transfer : tie.Need-enum-known-transfer
+enum-known-transfer c = search needs
+
+cast-result : tie.Need-cast-result
+cast-result c = search needs
+
+add-result : tie.Need-add-result
+add-result c = search needs
+
+cast-result-2 : tie.Need-cast-result-2
+cast-result-2 c = search needs
+
+add-result-2 : tie.Need-add-result-2
+add-result-2 c = search needs
+
+cast-result-3 : tie.Need-cast-result-3
+cast-result-3 c = search needs
+
+returns : tie.Need-returns
+returns c = search needs
+
+returns-2 : tie.Need-returns-2
+returns-2 c = simp (c .before .transfer .given .1)
+
+pub ack-holds-spec : {M : Type 1} → statement M
+ack-holds-spec =
+    tie.close
+    (tie.spec
+    enum-told
+    enum-known-transfer
+    cast-result
+    add-result
+    cast-result-2
+    add-result-2
+    cast-result-3
+    returns
+    returns-2)
