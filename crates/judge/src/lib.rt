@@ -12,15 +12,17 @@ ghost use Prim.Native.Nat.{ℕ, _+_, _/_, _^_, _≤_, _<_};
 ghost use lib.ListN.{length, take};
 ghost use Rattle.rules.specs.Bounds.{SoundJudge, SoundTally};
 ghost use Rattle.rules.specs.Run.{takenIn, stepOf, recordsIn, runOf, from as starting};
-ghost use Rattle.rules.specs.Verdict.{outcomeOf, judgedOf};
+ghost use Rattle.rules.specs.Verdict.{refusalOf, refusedBy, verdictOf, outcomeOf, judgedOf};
 ghost use Rattle.rules.specs.Exact.{After, Told};
 ghost use Rattle.judge.specs.Quick.{callOf};
 use record::Record;
+use rules::Broken;
 use rules::Judge;
 use rules::Judged;
 use rules::Outcome;
 use rules::Progress;
 use rules::Tally;
+use rules::Verdict;
 
 // ---- one record
 
@@ -86,16 +88,57 @@ fn judge_records(bytes: &[u8], judge: Judge, tally: Tally) -> Progress
 
 // ---- a call
 
+// The refusal of a call with so many bytes, in document 01's order: 5, 8, 1, or 0 where it is accepted.
+fn refusal(size: usize, judge: Judge, tally: Tally) -> u8
+    ensures { λ r. ⌜ r ≡ refusalOf size judge tally ⌝ }
+{
+    let bounded = bounds::judge_in_bounds(judge) & bounds::tally_in_bounds(tally);
+    let room = tally.records as u64 + (size / 16) as u64 <= Judge::MOST_RECORDS as u64;
+    let whole = size % 16 == 0;
+    basics::first(
+        bounded,
+        5,
+        basics::first(room, 8, basics::first(whole, 1, 0)),
+    )
+}
+
+fn refused_by(number: u8) -> Verdict
+    ensures { λ r. ⌜ r ≡ refusedBy number ⌝ }
+{
+    if number == 5 {
+        return Verdict::OutOfBounds;
+    }
+    if number == 8 {
+        return Verdict::TooMany;
+    }
+    Verdict::Torn
+}
+
+// "A breach names its rule and the tally's records".
+fn verdict_of(end: Progress) -> Verdict
+    ensures { λ r. ⌜ r ≡ verdictOf end ⌝ }
+{
+    let totals = end.tally;
+    if end.rule == 0 {
+        return Verdict::Conforming;
+    }
+    let broken = Broken {
+        rule: end.rule,
+        place: totals.records,
+    };
+    Verdict::Breach(broken)
+}
+
 // Judges a recording, or its next part, from a state and a tally. Nothing changes on a refusal, and a breach leaves both as they were
 // before it. Of a caller who began with a fresh judge and zero totals and was told of each part so far that it conforms (`After`), the
 // verdict and the totals are those of the whole recording (`Told`).
 pub fn judge_all(bytes: &[u8], judge: Judge, tally: Tally) -> Outcome
     ensures { λ r. ⌜ (r ≡ outcomeOf (now (bytes .entry)) judge tally) × ((limit : ℕ) (past : List ℕ) → After limit past judge tally → Told limit past (now (bytes .entry)) judge tally r) ⌝ }
 {
-    let number = bounds::refusal(bytes.len(), judge, tally);
+    let number = refusal(bytes.len(), judge, tally);
     if number != 0 {
         return Outcome {
-            verdict: bounds::refused_by(number),
+            verdict: refused_by(number),
             judge: judge,
             tally: tally,
         };
@@ -104,7 +147,7 @@ pub fn judge_all(bytes: &[u8], judge: Judge, tally: Tally) -> Outcome
     let state = end.judge;
     let totals = end.tally;
     Outcome {
-        verdict: bounds::verdict_of(end),
+        verdict: verdict_of(end),
         judge: state,
         tally: totals,
     }

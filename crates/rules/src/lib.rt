@@ -1,4 +1,5 @@
-// The judge of recordings (document 01, "The judge"): its state, its tally and its verdict. The code that judges stands in the crate `judge`.
+// The judge of recordings (document 01, "The judge"): its state, its tally and its verdict. The code that judges
+// stands in the crates `breach` (which rule a record breaks) and `judge`.
 ghost use mathlib.Core.Path.{_≡_};
 ghost use Rattle.rules.specs.State.{isOpen, freshWave, zeroTally};
 ghost use Rattle.rules.specs.Verdict.{freshAnswer, freshOf};

@@ -1,8 +1,8 @@
--- `judge::bounds::verdict_of` meets its contract. Assumes nothing.
+-- `judge::verdict_of` meets its contract. Assumes nothing.
 use borrow.Author.Tests.{eq-eqb, ne-eqb}
 use Rattle.rules.specs.Verdict.{verdictOf}
-use Rattle.judge.proofs.bounds.verdict_of.Statement.{statement}
-use Rattle.judge.proofs.bounds.verdict_of.Tie as tie
+use Rattle.judge.proofs.verdict_of.Statement.{statement}
+use Rattle.judge.proofs.verdict_of.Tie as tie
 
 returns : tie.Need-returns
 unfolding verdictOf

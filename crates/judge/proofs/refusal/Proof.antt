@@ -1,8 +1,8 @@
--- `judge::bounds::refusal` meets its contract. Assumes nothing.
+-- `judge::refusal` meets its contract. Assumes nothing.
 use Rattle.rules.specs.Verdict.{refusalOf}
 use borrow.Author.Needs.{needs}
-use Rattle.judge.proofs.bounds.refusal.Statement.{statement}
-use Rattle.judge.proofs.bounds.refusal.Tie as tie
+use Rattle.judge.proofs.refusal.Statement.{statement}
+use Rattle.judge.proofs.refusal.Tie as tie
 
 judge-in-bounds-requires : tie.Need-judge-in-bounds-requires
 judge-in-bounds-requires c κs = search needs

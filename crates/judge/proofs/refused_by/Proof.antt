@@ -1,8 +1,8 @@
--- `judge::bounds::refused_by` meets its contract. Assumes nothing.
+-- `judge::refused_by` meets its contract. Assumes nothing.
 use borrow.Author.Tests.{eq-eqb, ne-eqb}
 use Rattle.rules.specs.Verdict.{refusedBy}
-use Rattle.judge.proofs.bounds.refused_by.Statement.{statement}
-use Rattle.judge.proofs.bounds.refused_by.Tie as tie
+use Rattle.judge.proofs.refused_by.Statement.{statement}
+use Rattle.judge.proofs.refused_by.Tie as tie
 
 returns : tie.Need-returns
 unfolding refusedBy
