@@ -1,7 +1,7 @@
 -- The cases of `cycle`'s definitions, as the code's branches ask for them. Assumes nothing.
 use Prim.Native.Nat.{ℕ, zero, suc, _+_, _-_, _<_, _≤_}
 use mathlib.Core.Path.{_≡_, refl, sym, ap, _∙_}
-use mathlib.Core.Bool.{Bool, true, false, cond, not, _&&_, true≢false}
+use mathlib.Core.Bool.{Bool, true, false, cond, not, _&&_, true≢false, and-false}
 use mathlib.Core.List.{List}
 use native.Mathlib.Omega.{arith}
 use native.Mathlib.Decide.{ℕ-discrete}
@@ -194,11 +194,7 @@ bounds-turn b e =
 pub below-unlawful : (k i : ℕ) (words : List ℕ) → i < k → lawfulWord (getD words i 0) ≡ false → lawfulBelow k words ≡ false
 unfolding lawfulBelow
 below-unlawful zero i words l w = absurd (omega arith)
-below-unlawful (suc k) i words l w = elim (ℕ-discrete i k) [ yes q ↦ rw (← q, w) | no n ↦ rw (below-unlawful k i words (last-or l n) w) (and-no (lawfulWord (getD words k 0))) ]
-  where
-    and-no : (b : Bool) → (b && false) ≡ false
-    and-no true = refl
-    and-no false = refl
+below-unlawful (suc k) i words l w = elim (ℕ-discrete i k) [ yes q ↦ rw (← q, w) | no n ↦ rw (below-unlawful k i words (last-or l n) w) (and-false (lawfulWord (getD words k 0))) ]
 
 pub below-more : (k : ℕ) (words : List ℕ) → lawfulBelow k words ≡ true → lawfulWord (getD words k 0) ≡ true → lawfulBelow (k + 1) words ≡ true
 unfolding lawfulBelow

@@ -1,6 +1,6 @@
 -- Laws of the quick way: where its tests hold, the record keeps every rule and leaves the state that it gives. Assumes nothing.
 use Prim.Native.Nat.{ℕ, _+_, _≤_}
-use mathlib.Core.Bool.{Bool, true, false, not, cond, _&&_, _||_, false≢true, true≢false}
+use mathlib.Core.Bool.{Bool, true, false, not, cond, _&&_, _||_, false≢true, true≢false, and-false, and-true, or-false, or-true}
 use mathlib.Core.Path.{_≡_, refl, sym, ap, subst, _∙_}
 use native.Mathlib.Omega.{arith}
 use lib.Dec.{leb, ltb, eqb}
@@ -20,26 +20,11 @@ use Rattle.rules.specs.Rules.{strobe, rule5, rule6, rule8, rule9, rule10, rule1
 use Rattle.rules.specs.State.{isOpen, openWords, openStrobes, openAge, agedOf, transferOf, askedOf, twiceOf, capped, waveOf, tallyOf}
 use Rattle.rules.specs.Run.{laterRules, from, stepOf}
 use Rattle.rules.proofs.Laws.{AllHold}
+use Rattle.rules.proofs.Ride.{capped-three}
 use Rattle.judge.specs.Quick.{WaveKept, Plain, waitedOf, startedOf, turnHolds, startHolds, requestHolds, ackHolds, quietHolds, StartKept, AckKept, QuietKept}
 use Rattle.judge.proofs.Steps.{not-holds, step-kept}
 
 -- ---- tests
-and-false : (a : Bool) → (a && false) ≡ false
-and-false true = refl
-and-false false = refl
-
-and-true : (a : Bool) → (a && true) ≡ a
-and-true true = refl
-and-true false = refl
-
-or-false : (a : Bool) → (a || false) ≡ a
-or-false true = refl
-or-false false = refl
-
-or-true : (a : Bool) → (a || true) ≡ true
-or-true true = refl
-or-true false = refl
-
 -- the second of two, one of which holds
 other-holds : (a b : Bool) → (a || b) ≡ true → a ≡ false → b ≡ true
 other-holds true b e f = absurd (true≢false f)
@@ -62,10 +47,6 @@ cap-one since d le e =
     (λ l. let z = ltb-false since 3 l in
     rw l (choice (λ (k : ℕ). k ≡ since + 0) (ltb (since + d) 3) (λ m. let y = ltb-true (since + d) 3 m in omega arith) (λ m. omega arith)))
 
-cap-three : (since d : ℕ) → since ≡ 3 → capped (since + d) ≡ 3
-cap-three since d e =
-    choice (λ (k : ℕ). k ≡ 3) (ltb (since + d) 3) (λ m. let y = ltb-true (since + d) 3 m in omega arith) (λ m. refl)
-
 still-three : (since : ℕ) → since ≡ 3 → 3 ≡ since + one (ltb since 3)
 still-three since e = let l : ltb since 3 ≡ false = le-ltb since 3 (omega arith) in rw l (omega arith)
 
@@ -86,7 +67,7 @@ waited-is w rqst start arb d k s h = subst (λ (b : Bool). waveOf w rqst b arb d
     resting : w .rqst ≡ false → waveOf w rqst false arb d ≡ waitedOf w rqst
     resting e =
         wave-same refl (ap (λ (b : Bool). eqb d 1 && b) e ∙ and-false (eqb d 1) ∙ sym e) owned-still
-        (choice (λ (n : ℕ). n ≡ 3) rqst (λ _. cap-three (w .since) d (k .since e)) (λ _. refl) ∙ still-three (w .since) (k .since e))
+        (choice (λ (n : ℕ). n ≡ 3) rqst (λ _. capped-three (w .since) d (k .since e)) (λ _. refl) ∙ still-three (w .since) (k .since e))
         (choice (λ (n : ℕ). n ≡ w .arb) rqst (λ _. refl) (λ _. sym (k .arb e)))
         (choice (λ (n : ℕ). n ≡ w .turn) rqst (λ _. refl) (λ _. sym (k .turn e)))
 
@@ -108,7 +89,7 @@ started-is w rqst start arb d k s h = subst (λ (b : Bool). waveOf w rqst b arb 
         let a : askedOf w d ≡ false = ap (λ (x : Bool). eqb d 1 && x) e ∙ and-false (eqb d 1) in
         let b : (w .rqst && rqst) ≡ false = ap (λ (x : Bool). x && rqst) e in
         wave-same refl (a ∙ sym e) (ap (λ (x : Bool). w .owned || x) (a ∙ sym e))
-        (ap (λ (x : Bool). cond rqst (cond x 0 (capped (w .since + d))) 3) a ∙ choice (λ (n : ℕ). n ≡ 3) rqst (λ _. cap-three (w .since) d (k .since e)) (λ _. refl) ∙ ap (λ (x : Bool). cond x 0 3) (sym b))
+        (ap (λ (x : Bool). cond rqst (cond x 0 (capped (w .since + d))) 3) a ∙ choice (λ (n : ℕ). n ≡ 3) rqst (λ _. capped-three (w .since) d (k .since e)) (λ _. refl) ∙ ap (λ (x : Bool). cond x 0 3) (sym b))
         (ap (λ (x : Bool). cond rqst (cond x arb (w .arb)) 15) a ∙ choice (λ (n : ℕ). n ≡ 15) rqst (λ _. k .arb e) (λ _. refl) ∙ ap (λ (x : Bool). cond x arb 15) (sym b))
         (ap (λ (x : Bool). cond rqst (cond x (cond (eqb arb (w .arb)) (w .turn + 1) 1) (w .turn)) 0) a ∙ choice (λ (n : ℕ). n ≡ 0) rqst (λ _. k .turn e) (λ _. refl) ∙ ap (λ (x : Bool). cond x (cond (eqb arb (w .arb)) (w .turn + 1) 1) 0) (sym b))
 

@@ -14,6 +14,7 @@ use Rattle.rules.specs.declared.Progress.{Progress}
 use Rattle.rules.specs.Bounds.{SoundJudge, SoundTally}
 use Rattle.rules.specs.Run.{Taken, takenIn, recordsIn, from, stepOf, runOf}
 use Rattle.rules.proofs.Laws.{SoundProgress, next-open, run-stopped, step-sound, arb-le}
+use Rattle.rules.proofs.Parts.{run-open}
 use Rattle.judge.specs.Quick.{Ready, Left}
 use Rattle.judge.specs.declared.quick.Reached.{Reached}
 use Rattle.judge.proofs.Steps.{taken-of, step-ready}
@@ -34,10 +35,6 @@ record-of s i lines spare lt e f =
 
 pub part-record : (s : List ℕ) (i : ℕ) (k : Judge) (u : Tally) (p : Progress) → p ≡ stepOf k u (takenIn (take 16 (take (length s - i * 16) (drop (i * 16) s)))) → p ≡ stepOf k u (recordAt s i)
 part-record s i k u p e = e ∙ ap (λ (x : List ℕ). stepOf k u (takenIn (take 16 x))) (rest-is s (i * 16))
-
--- a progress without a breach
-open-is : (p : Progress) → p .rule ≡ 0 → p ≡ from (p .judge) (p .tally)
-open-is p e = ap (λ (n : ℕ). record { rule = n; judge = p .judge; tally = p .tally }) e
 
 -- one record of what is left
 run-one : (s : List ℕ) (j : Judge) (t : Tally) (m i : ℕ) → runOf (from j t) (recordsIn (suc m) (drop (i * 16) s)) ≡ runOf (stepOf j t (recordAt s i)) (recordsIn m (drop ((i + 1) * 16) s))
@@ -74,7 +71,7 @@ left-again s j t i k u p g lt z e =
       le = omega arith;
       ready = subst (λ (x : Progress). Ready (x .judge) (x .tally)) (sym e) q;
       room = omega arith;
-      same = ap (λ (x : Progress). runOf x (recordsIn (length s / 16 - (i + 1)) (drop ((i + 1) * 16) s))) (sym (open-is p z) ∙ e) ∙ run-more s k u (length s / 16) i lt ∙ g .same;
+      same = ap (λ (x : Progress). runOf x (recordsIn (length s / 16 - (i + 1)) (drop ((i + 1) * 16) s))) (sym (run-open p z) ∙ e) ∙ run-more s k u (length s / 16) i lt ∙ g .same;
     }
 
 -- ---- the loop over a recording
@@ -135,7 +132,7 @@ going-again s n j t k u i p r g lt e z l =
           ∙ l .same
           ∙ ap (λ (m : ℕ). runOf (from (p .judge) (p .tally)) (recordsIn m (drop (i * 16 + 16) s))) size
           ∙ ap (λ (m : ℕ). runOf (from (p .judge) (p .tally)) (recordsIn (n - (i + 1)) (drop m s))) here
-          ∙ ap (λ (x : Progress). runOf x (recordsIn (n - (i + 1)) (drop ((i + 1) * 16) s))) (sym (open-is p z) ∙ e)
+          ∙ ap (λ (x : Progress). runOf x (recordsIn (n - (i + 1)) (drop ((i + 1) * 16) s))) (sym (run-open p z) ∙ e)
           ∙ run-more s k u n i lt
           ∙ g .same;
     }

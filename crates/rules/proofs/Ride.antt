@@ -149,7 +149,7 @@ capped-more x d =
     let le = ltb-false x 3 e in
     ap (λ k. capped (k + d)) (cond-false x 3 e) ∙ cond-false (3 + d) 3 (le-ltb (3 + d) 3 (omega arith)) ∙ sym (cond-false (x + d) 3 (le-ltb (x + d) 3 (omega arith))))
 
-capped-three : (s d : ℕ) → s ≡ 3 → capped (s + d) ≡ 3
+pub capped-three : (s d : ℕ) → s ≡ 3 → capped (s + d) ≡ 3
 capped-three s d e = cond-false (s + d) 3 (le-ltb (s + d) 3 (omega arith))
 
 -- no START of the wave has an ARB below the least
