@@ -17,16 +17,18 @@ measuresOf Four = (16, 4, false, 6)
 measuresOf Eight = (32, 8, false, 14)
 measuresOf Sixteen = (64, 16, false, 30)
 
--- to which its address is aligned
+-- its bytes, to which its address is aligned
 abbrev pub bytesIn : Unit → ℕ
 bytesIn u = measuresOf u .0
 
+-- the words that its transfer owes
 abbrev pub wordsIn : Unit → ℕ
 wordsIn u = measuresOf u .1
 
--- "TM0 active: a byte"
+-- whether its code has TM0 active: "TM0 active: a byte"
 abbrev pub byteUnit : Unit → Bool
 byteUnit u = measuresOf u .2
 
+-- what its code has active among the address's low lines, which are zero in an aligned address
 abbrev pub markOf : Unit → ℕ
 markOf u = measuresOf u .3
