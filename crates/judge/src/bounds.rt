@@ -18,7 +18,7 @@ fn transfer_in_bounds(transfer: Transfer) -> bool
     }
 }
 
-pub(crate) fn judge_in_bounds(judge: Judge) -> bool
+pub fn judge_in_bounds(judge: Judge) -> bool
     ensures { λ r. ⌜ r ≡ judgeBounds judge ⌝ }
 {
     let transfer = judge.transfer;
@@ -29,7 +29,7 @@ pub(crate) fn judge_in_bounds(judge: Judge) -> bool
         & (wave.arb <= 15)
 }
 
-pub(crate) fn tally_in_bounds(tally: Tally) -> bool
+pub fn tally_in_bounds(tally: Tally) -> bool
     ensures { λ r. ⌜ r ≡ tallyBounds tally ⌝ }
 {
     (tally.span <= 2147483648 * tally.records as u64)

@@ -6,6 +6,8 @@ mod after;
 mod bounds;
 mod quick;
 
+pub use bounds::judge_in_bounds;
+pub use bounds::tally_in_bounds;
 ghost use mathlib.Core.Path.{_≡_};
 ghost use mathlib.Core.List.{List};
 ghost use Prim.Native.Nat.{ℕ, _+_, _/_, _^_, _≤_, _<_};

@@ -126,7 +126,7 @@ stops (suc n) p bytes z =
         let stop = ap (λ (x : Progress). runOf x (recordsIn n (drop 16 bytes))) (next-open p r z ∙ step-bad (p .judge) (p .tally) r ne) ∙ run-stopped (record { rule = ruleOf (p .judge) r d; judge = p .judge; tally = p .tally }) (recordsIn n (drop 16 bytes)) ne in
         (0, omega arith, run-open p z ∙ sym (ap (λ (x : Progress). from (x .judge) (x .tally)) stop))
 
-records-take : (m : ℕ) (bytes : List ℕ) → m * 16 ≤ length bytes → recordsIn m (take (m * 16) bytes) ≡ recordsIn m bytes
+pub records-take : (m : ℕ) (bytes : List ℕ) → m * 16 ≤ length bytes → recordsIn m (take (m * 16) bytes) ≡ recordsIn m bytes
 records-take m bytes le =
     sym (append-nil (recordsIn m (take (m * 16) bytes)))
     ∙ sym (records-append m 0 (take (m * 16) bytes) (drop (m * 16) bytes) (length-take-le (m * 16) bytes le))

@@ -1,0 +1,3 @@
+pub mod GoOn
+pub mod Calls
+pub mod Feeding
