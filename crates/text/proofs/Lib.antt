@@ -1,0 +1,4 @@
+pub mod PlaceLaws
+pub mod NumberLaws
+pub mod DecimalLaws
+pub mod Examples
