@@ -1,0 +1,143 @@
+# shellcheck shell=sh
+# What the commands on a recording share: options, opening it, running a program over it with progress, the exit status; read by
+# ./spur, which has root and die.
+: "${root:?}"
+
+# The options of a command: sets limit, and taken, the number of words that the command is to shift.
+options() { # WORDS..
+    limit=16 taken=$#
+    while [ $# -gt 0 ]; do
+        case $1 in
+        --limit)
+            [ $# -gt 1 ] || die "--limit needs a number, 1 to 16"
+            limit=$2
+            shift
+            ;;
+        --limit=*) limit=${1#--limit=} ;;
+        --)
+            shift
+            break
+            ;;
+        -?*) die "there is no option $1; ./spur help lists the commands" ;;
+        *) break ;;
+        esac
+        shift
+    done
+    taken=$((taken - $#))
+    case $limit in '' | *[!0-9]*) die "--limit needs a number, 1 to 16" ;; esac
+    # A number may have zeros in front; the programs get it without.
+    limit=${limit#"${limit%%[!0]*}"}
+    limit=${limit:-0}
+}
+
+# Ends at once where standard output is closed, and not after a long recording.
+can_be_written() {
+    { true 9>&1; } 2>/dev/null || die "standard output can't be written"
+}
+
+# Opens the recording as descriptor 3. A pipe, a device, /dev/fd/63 is as good as a file. /dev/stdin is standard input itself: some
+# kinds can't be opened a second time (a socket, another user's pipe). 'command' keeps a failing exec from ending the shell.
+opened() { # FILE
+    case $1 in
+    - | /dev/stdin)
+        { command exec 3<&0; } 2>/dev/null || die "standard input is closed"
+        return
+        ;;
+    esac
+    if [ -d "$1" ]; then die "$1 is a folder"; fi
+    { command exec 3<"$1"; } 2>/dev/null && return
+    folder=$(dirname -- "$1")
+    if [ -d "$folder" ] && [ ! -x "$folder" ]; then die "there is no permission to look into $folder"; fi
+    [ -e "$1" ] || die "$1 isn't there"
+    [ -r "$1" ] || die "there is no permission to read $1"
+    die "$1 can't be opened"
+}
+
+# The value of a line 'NAME: VALUE' in one of the system's files on a process; nothing where there is no such file.
+field() { # NAME FILE
+    sed -n "s/^$1:[[:space:]]*\([0-9][0-9]*\)\$/\1/p" "$2" 2>/dev/null
+}
+
+# How far the program is with its standard input, in words. Of a regular file the system tells the place and the size. Of anything
+# else it tells the bytes that the process has read, among them some thousand of the loader's.
+far() { # the place at which it began
+    if [ -f "/proc/$program/fd/0" ]; then
+        at=$(field pos "/proc/$program/fdinfo/0") size=$(stat -L -c %s "/proc/$program/fd/0" 2>/dev/null)
+        [ -n "$at" ] || return 0
+        printf '%s bytes' "$((at - $1))"
+        if [ "$1" -lt "${size:-0}" ] && [ "$at" -le "$size" ]; then printf ', %s per cent' "$(((at - $1) * 100 / (size - $1)))"; fi
+    else
+        at=$(field rchar "/proc/$program/io")
+        if [ -n "$at" ]; then printf 'about %s bytes' "$at"; fi
+    fi
+}
+
+# Shows on the terminal how far the program is, on one line that is rewritten each second from the second one on, until it is
+# ended by TERM, and clears the line. It then ends its own sleep too; before the first, $! is still the program.
+watch() { # the place at which it began
+    shown=
+    trap '[ "$!" = "$program" ] || kill "$!" 2>/dev/null; [ -z "$shown" ] || printf "\r%-45s\r" "" >&2; exit' TERM
+    sleep 2 &
+    wait "$!"
+    while said=$(far "$1") && [ -n "$said" ]; do # nothing, where the system doesn't tell
+        shown=1
+        printf '\r%-45s' "spur: $said" >&2
+        sleep 1 &
+        wait "$!"
+    done
+}
+
+# Ends what was started, the line on the terminal with it, and then this shell by the same signal.
+interrupted() { # SIGNAL
+    trap '' HUP INT QUIT TERM
+    # shellcheck disable=SC2086
+    kill ${watcher:-} ${program:-} ${!:-} 2>/dev/null
+    wait 2>/dev/null
+    rm -rf "$room"
+    trap - "$1"
+    kill -s "$1" "$$"
+}
+
+# Runs a program over the recording, and keeps what it says in the folder $room. It runs in the background, since a shell that
+# waits for one in the foreground hears no signal; a background command gets the recording from 3, having no standard input of its own.
+run_over() { # NAME WORDS..
+    room=$(mktemp -d) || die "there is no room for what the program says"
+    program='' watcher='' words=$(runner) name=$1 start=$(field pos "/proc/$$/fdinfo/3")
+    shift
+    for signal in HUP INT QUIT TERM; do
+        # shellcheck disable=SC2064
+        trap "interrupted $signal" "$signal"
+    done
+    # shellcheck disable=SC2086
+    $words "$root/target/bin/$name" "$@" <&3 3<&- >"$room/said" 2>"$room/complaint" &
+    program=$!
+    # Nobody looks for progress where standard error isn't a terminal; where the recording is typed the line would be in the way.
+    if [ -t 2 ] && [ ! -t 3 ]; then
+        watch "${start:-0}" 3<&- &
+        watcher=$!
+    fi
+    wait "$program" 2>/dev/null
+    ended=$?
+    if [ -n "$watcher" ]; then
+        kill "$watcher"
+        wait "$watcher"
+    fi 2>/dev/null
+    trap - HUP INT QUIT TERM
+}
+
+# Passes on what the program said, and exits by the line that has the verdict: a Rattle program has no exit status of its own.
+tell() { # LINE
+    case $1 in
+    conforming) status=0 ;;
+    'breach rule '*) status=1 ;;
+    'refused '*) status=2 ;;
+    *) status=3 ;;
+    esac
+    cat "$room/said" 2>/dev/null
+    written=$? complaint=$(cat "$room/complaint")
+    if [ "$status" -eq 3 ]; then complaint=${complaint:-"the program ended without a verdict (status $ended)"}; fi
+    rm -rf "$room"
+    if [ -n "$complaint" ]; then printf '%s\n' "$complaint" | sed 's/^/spur: /' >&2; fi
+    [ "$written" -eq 0 ] || die "standard output can't be written"
+    exit "$status"
+}
