@@ -1,0 +1,73 @@
+# shellcheck shell=sh disable=SC2154
+# Part of tests/command.sh: the first use and a program that misbehaves, with a made-up toolchain: a real proof takes minutes.
+
+# A checkout of five crates with the real command, an rt that proves at once, and a program that says what it is told to.
+made_up() {
+    tree=$work/tree kit=$work/kit
+    library=$kit/on/$(uname -m)/toolchain/lib
+    mkdir -p "$tree/crates/low" "$kit/bin" "$library"
+    cp -R "$spur" "$root/command" "$tree"
+    printf '%s\n' '# NAME: what it stands on' 'low:' 'high: low' 'beside: low' 'apart: low' 'spurjudge: high beside low io' \
+        >"$tree/crates.txt"
+    cat >"$kit/bin/rt" <<'RT'
+#!/bin/sh
+case $1 in
+doc) echo "$KIT/docs/first" ;;
+check)
+    shift
+    for crate in "$@"; do
+        if [ "$crate" = "${UNPROVED:-}" ]; then
+            echo "rt: $crate NOT PROVED"
+            exit 1
+        fi
+        echo "rt: $crate proved"
+    done
+    mkdir -p target/bin
+    [ "$crate" != spurjudge ] || [ -f target/bin/spurjudge ] || cp "$KIT/program" target/bin/spurjudge
+    ;;
+esac
+RT
+    printf '%s\n' '#!/bin/sh' 'shift 2' 'exec "$@"' >"$library/ld-linux-x86-64.so.2"
+    # shellcheck disable=SC2016
+    printf '%s\n' '#!/bin/sh' 'cat >/dev/null' 'printf "$SAYS"' '[ -z "${COMPLAINS:-}" ] || echo "$COMPLAINS" >&2' \
+        '[ -z "${ENDS:-}" ] || kill -s "$ENDS" $$' >"$kit/program"
+    chmod 755 "$kit/bin/rt" "$library/ld-linux-x86-64.so.2" "$kit/program"
+}
+
+# The command of the made-up checkout.
+there() { # VARIABLE=VALUE..
+    env PATH="$kit/bin:$PATH" KIT="$kit" "$@" "$tree/spur" judge "$boot"
+}
+missing() { env PATH="$kit/bin:$PATH" KIT="$kit" "$tree/spur" judge "$work/none.rec"; }
+
+building() {
+    proofs='spur: building spurjudge, with its proofs
+spur: proving low
+spur: proving high beside
+spur: proving spurjudge'
+    expect 'a missing file is told before anything is built' 3 '' "spur: * isn't there" missing
+    expect 'first use' 0 'conforming' "$proofs" there SAYS='conforming\n'
+    expect 'second use' 0 'conforming' '' there SAYS='conforming\n'
+    touch "$tree/crates/low/changed"
+    expect 'a crate has changed' 0 'conforming' "$proofs" there SAYS='conforming\n'
+    expect 'and is proved' 0 'conforming' '' there SAYS='conforming\n'
+    touch "$tree/crates/low/changed"
+    expect 'a crate is not proved' 3 '' '*rt: beside NOT PROVED*could not be built' there SAYS='conforming\n' UNPROVED=beside
+    expect 'it is tried again' 0 'conforming' "$proofs" there SAYS='conforming\n'
+}
+
+first_use() {
+    made_up
+    building
+    expect 'a program that says nothing' 3 '' 'spur: *verdict (status 0)' there SAYS=
+    expect 'a program that only complains' 3 '' 'spur: odd: input' there SAYS= COMPLAINS='odd: input'
+    expect 'a verdict, and another line' 3 'conforming
+or not' 'spur: *verdict*' there SAYS='conforming\nor not\n'
+    expect 'a line that is nearly a verdict' 3 'conforming so far' 'spur: *verdict*' there SAYS='conforming so far\n'
+    expect 'a program that ends half way' 3 'records 1' 'spur: *verdict (status 139)' there SAYS='records 1\n' ENDS=SEGV
+    expect 'the verdict complete isn'"'"'t the judge'"'"'s' 3 'complete' 'spur: *verdict*' there SAYS='complete\n'
+    # a folder with the tools of the command but no rt
+    mkdir "$work/tools"
+    for tool in sh env dirname readlink; do ln -s "$(command -v "$tool")" "$work/tools/$tool"; done
+    expect 'no rt' 3 '' 'spur: rt, *PATH' env PATH="$work/tools" "$spur" judge "$boot"
+}
