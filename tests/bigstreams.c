@@ -1,5 +1,4 @@
-/* Long inputs made on the fly: random bytes, a long recording whose memory is measured, and the
-   bound of 2^30 records. */
+/* Long inputs made on the fly: random bytes, and a long recording whose memory is measured. */
 #define _DEFAULT_SOURCE 1
 #include <stdio.h>
 #include <stdlib.h>
@@ -7,17 +6,7 @@
 #include <time.h>
 #include "faults.h"
 
-enum { BLOCK = 4096 }; /* records written at once */
-
-/* A block of sound traffic that starts and ends at a reset, so that it can be repeated: only the
-   stamps move on. */
-struct block {
-    uint8_t bytes[BLOCK * RECORD];
-    struct tally t;    /* of one block, the step from the block before included in the span */
-    uint32_t stamps[BLOCK];
-};
-
-static void make_block(struct block *b, unsigned long seed)
+static struct buffer block_traffic(unsigned long seed)
 {
     struct rng g = {seed};
     struct maker m;
@@ -32,14 +21,22 @@ static void make_block(struct block *b, unsigned long seed)
         if (r.stamp - m.j.stamp < 300) /* no long jumps: 2^30 records are to fit any clock */
             maker_try(&m, &r, spare);
     }
+    return m.out;
+}
+
+struct block *make_block(unsigned long seed)
+{
+    struct buffer traffic = block_traffic(seed);
+    struct block *b = calloc(1, sizeof *b);
     /* Cut to length by judging the first BLOCK - 1 again, and a RESET at the end. */
     struct judge j;
-    memset(&b->t, 0, sizeof b->t);
+    if (b == NULL)
+        exit(2);
     judge_fresh(&j, 16);
-    memcpy(b->bytes, m.out.bytes, (BLOCK - 1) * RECORD);
+    memcpy(b->bytes, traffic.bytes, (BLOCK - 1) * RECORD);
     for (size_t i = 0; i < BLOCK - 1; i++)
         judge_one(&j, &b->t, b->bytes + i * RECORD);
-    r = (struct record){.stamp = j.stamp + 1, .reset = 1};
+    struct record r = {.stamp = j.stamp + 1, .reset = 1};
     record_write(&r, b->bytes + (BLOCK - 1) * RECORD);
     judge_one(&j, &b->t, b->bytes + (BLOCK - 1) * RECORD);
     if (b->t.records != BLOCK) {
@@ -52,11 +49,11 @@ static void make_block(struct block *b, unsigned long seed)
         record_read(&s, b->bytes + i * RECORD);
         b->stamps[i] = s.stamp;
     }
-    buffer_free(&m.out);
+    buffer_free(&traffic);
+    return b;
 }
 
-/* The totals of so many blocks. */
-static struct tally blocks_tally(const struct block *b, uint64_t blocks)
+struct tally blocks_tally(const struct block *b, uint64_t blocks)
 {
     struct tally t;
     t.records = (uint32_t)(b->t.records * blocks);
@@ -70,10 +67,9 @@ static struct tally blocks_tally(const struct block *b, uint64_t blocks)
 struct stream {
     struct block *block;
     uint64_t blocks;
-    size_t more; /* bytes of one further block */
 };
 
-static void set_stamps(struct block *b, uint32_t base)
+void set_stamps(struct block *b, uint32_t base)
 {
     for (size_t i = 0; i < BLOCK; i++) {
         uint32_t s = b->stamps[i] + base;
@@ -94,20 +90,15 @@ static void write_stream(int to, void *with)
         if (write_all(to, s->block->bytes, sizeof s->block->bytes) != 0)
             return;
     }
-    set_stamps(s->block, base);
-    write_all(to, s->block->bytes, s->more);
 }
 
-/* Runs the stream, compares the text, and gives the memory used in KiB, or -1. */
-static long run_stream(const char *what, struct stream *s, int refusal)
+long run_stream(const char *what, writer *write, void *with, uint64_t records, const char *text)
 {
-    struct plan p = {.command = set.command, .out = -2, .write = write_stream, .with = s,
-                     .seconds = set.seconds + (int)(s->blocks / 256)};
-    struct tally t = blocks_tally(s->block, s->blocks);
+    struct plan p = {.command = set.command, .out = -2, .write = write, .with = with,
+                     .seconds = set.seconds + (int)(records >> 20)};
     struct result r;
-    char text[TEXT], detail[4 * TEXT];
+    char detail[4 * TEXT];
     struct timespec a, b;
-    judge_text(&t, 0, 0, refusal, text);
     clock_gettime(CLOCK_MONOTONIC, &a);
     run_plan(&p, &r);
     clock_gettime(CLOCK_MONOTONIC, &b);
@@ -115,7 +106,7 @@ static long run_stream(const char *what, struct stream *s, int refusal)
     int good = printed(&r, text);
     if (good)
         snprintf(detail, sizeof detail, "%llu records, %.1f s, %ld KiB, %s",
-                 (unsigned long long)(s->blocks * BLOCK), took, r.memory, strchr(text, '\n') + 1);
+                 (unsigned long long)records, took, r.memory, strchr(text, '\n') + 1);
     else
         snprintf(detail, sizeof detail, "expected\n%sgot (%s)\n%.*s", text, ending(&r),
                  (int)r.out.len, r.out.bytes == NULL ? "" : (const char *)r.out.bytes);
@@ -128,40 +119,26 @@ static long run_stream(const char *what, struct stream *s, int refusal)
     return memory;
 }
 
+static long run_blocks(const char *what, struct block *b, uint64_t blocks)
+{
+    struct stream s = {b, blocks};
+    struct tally t = blocks_tally(b, blocks);
+    char text[TEXT];
+    judge_text(&t, 0, 0, 0, text);
+    return run_stream(what, write_stream, &s, blocks * BLOCK, text);
+}
+
 /* The same memory at 1 MiB and at the size asked for. */
 void big_memory(void)
 {
-    struct block *b = malloc(sizeof *b);
-    struct stream s = {b, 16, 0};
+    struct block *b = make_block(set.seed);
     char detail[100];
-    if (b == NULL)
-        exit(2);
-    make_block(b, set.seed);
-    long small = run_stream("1 MiB", &s, 0);
-    s.blocks = 16 * (uint64_t)set.megabytes;
-    long large = run_stream("the long recording", &s, 0);
+    long small = run_blocks("1 MiB", b, 16);
+    long large = run_blocks("the long recording", b, 16 * (uint64_t)set.megabytes);
     snprintf(detail, sizeof detail, "%ld KiB at 1 MiB, %ld KiB at %lu MiB", small, large,
              set.megabytes);
     long apart = large > small ? large - small : small - large;
     outcome(small >= 0 && large >= 0 && apart <= 256 + small / 10, "memory doesn't grow", detail);
-    free(b);
-}
-
-/* 2^30 records conform; one more is refused 8; a torn piece more is refused 1; both are 8. */
-void big_boundary(void)
-{
-    struct block *b = malloc(sizeof *b);
-    struct stream s = {b, MOST_RECORDS / BLOCK, 0};
-    if (b == NULL)
-        exit(2);
-    make_block(b, set.seed + 1);
-    run_stream("2^30 records", &s, 0);
-    s.more = RECORD;
-    run_stream("2^30 records and one", &s, 8);
-    s.more = 5;
-    run_stream("2^30 records and a torn piece", &s, 1);
-    s.more = RECORD + 5;
-    run_stream("2^30 records, one and a torn piece", &s, 8);
     free(b);
 }
 

@@ -20,7 +20,8 @@ link() { # the program, then its objects
 link modelcalls $model
 link modeljudge $model
 link outside $model $makers $running
-link faults bigstreams $model $makers $running
+link faults bigstreams boundary $model $makers $running
+link limits $model $makers $running
 link golden goldenrules $model $makers $running
 link selftest lookback $model $makers
 link makerec $model $makers

@@ -122,7 +122,7 @@ static long recording_differs(const struct subject_program *p, const struct buff
 {
     struct result r;
     char expected[TEXT];
-    int status = judge_program(in->bytes, in->len, expected);
+    int status = judge_program(NO_LIMIT_GIVEN, in->bytes, in->len, expected);
     run_bytes(p->command, in->bytes, in->len, p->feed, p->seconds, &r);
     size_t len = strlen(expected);
     int same = !r.late && r.out.len == len && memcmp(r.out.bytes, expected, len) == 0;

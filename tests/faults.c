@@ -1,7 +1,9 @@
 /* Faults: torn ends, input in small pieces, inputs and outputs that are closed or fail, random
-   bytes, memory, and with --boundary the real bound of 2^30 records.
+   bytes, memory, and with --boundary the real bound of 2^30 records; --bound K has the K-th run
+   there alone.
 
-   faults --judge COMMAND [--megabytes N] [--seed S] [--seconds T] [--boundary] [--quick] */
+   faults --judge COMMAND [--megabytes N] [--seed S] [--seconds T] [--boundary] [--bound K]
+          [--quick] */
 #define _DEFAULT_SOURCE 1
 #include <fcntl.h>
 #include <signal.h>
@@ -41,7 +43,7 @@ static void compare(const char *what, const uint8_t *bytes, size_t len, struct f
 {
     struct result r;
     char expected[TEXT], detail[3 * TEXT] = "";
-    judge_program(bytes, len, expected);
+    judge_program(NO_LIMIT_GIVEN, bytes, len, expected);
     run_bytes(set.command, bytes, len, feed, set.seconds, &r);
     int good = printed(&r, expected);
     if (!good)
@@ -77,20 +79,27 @@ static void torn_ends(struct rng *g)
     buffer_free(&m.out);
 }
 
+/* Pieces of one size: a recording that conforms, its torn end, and a breach behind it. */
+static void pieces_of(struct rng *g, struct feed feed)
+{
+    struct maker m = some_traffic(g, feed.piece < 15 ? 150 : 1500);
+    compare("small pieces", m.out.bytes, m.out.len, feed);
+    compare("small pieces, a torn end", m.out.bytes, m.out.len - 1 - rng_below(g, 15), feed);
+    damage(&m, 1 + (int)rng_below(g, 13));
+    compare("small pieces, a breach", m.out.bytes, m.out.len, feed);
+    buffer_free(&m.out);
+}
+
+/* In drips each read sees one piece; through a pipe that is kept full, as many as there are. */
 static void small_pieces(struct rng *g)
 {
-    static const size_t pieces[] = {1, 7, 15, 16, 17, 31, 1023};
-    for (int way = BY_PIPE; way <= BY_DRIPS; way++)
-        for (int i = 0; i < 7; i++)
-            for (int torn = 0; torn < 2; torn++) {
-                struct maker m = some_traffic(g, pieces[i] < 15 ? 150 : 1500);
-                struct feed feed = {(enum way)way, pieces[i]};
-                compare("small pieces", m.out.bytes, m.out.len - (torn ? 5 : 0), feed);
-                damage(&m, 1 + (int)rng_below(g, 13));
-                compare("small pieces, with a breach", m.out.bytes, m.out.len, feed);
-                buffer_free(&m.out);
-            }
-    outcome(1, "small pieces", "1, 7, 15, 16, 17, 31 and 1023 bytes a read, pipe and drips");
+    static const size_t others[] = {1, 7, 15, 16, 17, 31, 1023};
+    for (size_t size = 1; size <= 40; size++)
+        pieces_of(g, (struct feed){BY_DRIPS, size});
+    pieces_of(g, (struct feed){BY_DRIPS, 1023});
+    for (int i = 0; i < 7; i++)
+        pieces_of(g, (struct feed){BY_PIPE, others[i]});
+    outcome(1, "small pieces", "every size from 1 to 40 and 1023 bytes a read, and a full pipe");
 }
 
 /* No verdict on standard output, something on standard error. */
@@ -143,7 +152,7 @@ static void failing_input(struct rng *g)
     }
 }
 
-/* It ends, by itself or by SIGPIPE, and by no other signal. */
+/* It ends, by SIGPIPE or by itself, and then it says so on standard error; by no other signal. */
 static void unwritable(const char *what, int out, int ignore, const uint8_t *bytes, size_t len)
 {
     struct plan p = {.command = set.command, .out = out, .ignore_pipe = ignore,
@@ -157,10 +166,12 @@ static void unwritable(const char *what, int out, int ignore, const uint8_t *byt
     }
     p.in = fileno(f);
     run_plan(&p, &r);
-    int good = !r.late && (WIFEXITED(r.status) ? WEXITSTATUS(r.status) <= 128 ||
-                                                     WEXITSTATUS(r.status) == 128 + SIGPIPE
-                                               : WTERMSIG(r.status) == SIGPIPE);
-    snprintf(detail, sizeof detail, "%s", ending(&r));
+    int by_pipe = WIFEXITED(r.status) ? WEXITSTATUS(r.status) == 128 + SIGPIPE
+                                      : WTERMSIG(r.status) == SIGPIPE;
+    int by_itself = WIFEXITED(r.status) && WEXITSTATUS(r.status) <= 128;
+    int good = !r.late && (by_pipe || (by_itself && r.err.len > 0));
+    snprintf(detail, sizeof detail, "%s; standard error %lu bytes", ending(&r),
+             (unsigned long)r.err.len);
     outcome(good, what, detail);
     result_free(&r);
     fclose(f);
@@ -189,20 +200,21 @@ static void failing_output(struct rng *g)
     buffer_free(&m.out);
 }
 
-int main(int argc, char **argv)
+static void read_options(int argc, char **argv)
 {
-    int quick = 0;
     for (int i = 1; i < argc; i++) {
         if (strcmp(argv[i], "--boundary") == 0)
             set.boundary = 1;
         else if (strcmp(argv[i], "--quick") == 0)
-            quick = 1;
+            set.quick = 1;
         else if (i + 1 < argc && strcmp(argv[i], "--judge") == 0)
             set.command = argv[++i];
         else if (i + 1 < argc && strcmp(argv[i], "--megabytes") == 0)
             set.megabytes = strtoul(argv[++i], NULL, 0);
         else if (i + 1 < argc && strcmp(argv[i], "--seed") == 0)
             set.seed = strtoul(argv[++i], NULL, 0);
+        else if (i + 1 < argc && strcmp(argv[i], "--bound") == 0)
+            set.bound = atoi(argv[++i]);
         else if (i + 1 < argc && strcmp(argv[i], "--seconds") == 0)
             set.seconds = atoi(argv[++i]);
         else
@@ -210,12 +222,17 @@ int main(int argc, char **argv)
     }
     if (set.command == NULL) {
         fprintf(stderr, "faults --judge COMMAND [--megabytes N] [--seed S] [--seconds T] "
-                        "[--boundary] [--quick]\n");
-        return 2;
+                        "[--boundary] [--bound K] [--quick]\n");
+        exit(2);
     }
+}
+
+int main(int argc, char **argv)
+{
+    read_options(argc, argv);
     struct rng g = {set.seed};
     printf("seed %lu\n", set.seed);
-    if (!quick) {
+    if (!set.quick) {
         torn_ends(&g);
         small_pieces(&g);
     }
@@ -223,7 +240,7 @@ int main(int argc, char **argv)
     failing_output(&g);
     big_random();
     big_memory();
-    if (set.boundary)
+    if (set.boundary || set.bound > 0)
         big_boundary();
     printf("faults: %lu passed, %lu failed\n", passed, failed);
     return failed > 0;

@@ -229,12 +229,15 @@ void judge_text(const struct tally *t, int open, int rule, int refusal, char *te
         snprintf(text + n, TEXT - (size_t)n, "conforming\n");
 }
 
-int judge_program(const uint8_t *bytes, size_t len, char *text)
+int judge_program(unsigned limit, const uint8_t *bytes, size_t len, char *text)
 {
     struct judge j;
     struct tally t = {0};
     int refusal = 0;
-    judge_fresh(&j, 16);
+    if (judge_fresh(&j, limit) != 0) { /* nothing is judged, so there are no totals */
+        snprintf(text, TEXT, "refused 3\n");
+        return 2;
+    }
     for (size_t at = 0; len - at >= RECORD; at += RECORD) {
         if (t.records == MOST_RECORDS) {
             refusal = 8;

@@ -1,31 +1,56 @@
-/* The model in place of the judging program: two lines for the recording on standard input.
-   Exit status 0 conforming, 1 breach, 2 refused, 3 unreadable. */
+/* The model in place of the judging program: two lines for the recording on standard input, with
+   the hold limit as its argument, 16 where there is none.
+   Exit status 0 conforming, 1 breach, 2 refused, 3 unreadable or no number. */
 #include <stdio.h>
 #include <string.h>
 #include <unistd.h>
 #include "spur.h"
 
+static int print(const char *text)
+{
+    size_t len = strlen(text), done = 0;
+    while (done < len) {
+        ssize_t n = write(1, text + done, len - done);
+        if (n <= 0) {
+            perror("standard output");
+            return 0;
+        }
+        done += (size_t)n;
+    }
+    return 1;
+}
+
 static int say(const struct tally *t, int open, int rule, int refusal)
 {
     char text[TEXT];
     judge_text(t, open, rule, refusal, text);
-    size_t len = strlen(text), done = 0;
-    while (done < len) {
-        ssize_t n = write(1, text + done, len - done);
-        if (n <= 0)
-            return 3;
-        done += (size_t)n;
-    }
-    return rule != 0 ? 1 : refusal != 0 ? 2 : 0;
+    return !print(text) ? 3 : rule != 0 ? 1 : refusal != 0 ? 2 : 0;
 }
 
-int main(void)
+/* A decimal number of any length, and 17 for all that are over 16; -1 if it is none. */
+static int number(const char *word)
 {
+    int n = 0;
+    if (word[0] == '\0' || word[strspn(word, "0123456789")] != '\0')
+        return -1;
+    for (; *word != '\0'; word++)
+        n = n > 16 ? 17 : 10 * n + (*word - '0');
+    return n > 16 ? 17 : n;
+}
+
+int main(int argc, char **argv)
+{
+    int limit = argc > 1 ? number(argv[1]) : NO_LIMIT_GIVEN;
     static uint8_t in[65536];
     struct judge j;
     struct tally t = {0};
     size_t have = 0;
-    judge_fresh(&j, 16);
+    if (limit < 0) {
+        fprintf(stderr, "the hold limit is a decimal number\n");
+        return 3;
+    }
+    if (judge_fresh(&j, (unsigned)limit) != 0)
+        return print("refused 3\n") ? 2 : 3;
     for (;;) {
         ssize_t n = read(0, in + have, sizeof in - have);
         if (n < 0) {

@@ -89,7 +89,7 @@ static void damaged(struct rng *g, unsigned long seed)
             int named = 0;
             maker_start(&m, g, 16);
             uint32_t broken = damage(&m, rule);
-            judge_program(m.out.bytes, m.out.len, text);
+            judge_program(NO_LIMIT_GIVEN, m.out.bytes, m.out.len, text);
             const char *line = strstr(text, "breach rule ");
             if (line != NULL)
                 named = atoi(line + 12);

@@ -42,7 +42,8 @@ one() { # file, old, new, what
         by="$by golden"
     case $1 in modeljudge.c)
         "$out/faults" --judge "$out/bug/modeljudge" --megabytes 1 >/dev/null 2>&1 ||
-            by="$by faults" ;;
+            by="$by faults"
+        "$out/limits" --judge "$out/bug/modeljudge" >/dev/null 2>&1 || by="$by limits" ;;
     esac
     if [ -n "$by" ]; then
         caught=$((caught + 1))

@@ -175,8 +175,7 @@ struct pieces {
     int drips;
 };
 
-/* Waits until the pipe is empty, or has no reader any more. */
-static void drained(int to)
+void drained(int to)
 {
     struct pollfd fd = {to, 0, 0};
     int held = 0;

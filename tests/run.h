@@ -33,6 +33,7 @@ struct plan {
 void run_plan(const struct plan *p, struct result *r);
 void result_free(struct result *r);
 int write_all(int to, const uint8_t *bytes, size_t len); /* 0 if it could */
+void drained(int to); /* waits until the pipe is empty, or has no reader any more */
 const char *ending(const struct result *r); /* in words */
 
 #endif

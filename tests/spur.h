@@ -98,9 +98,11 @@ void judge_take(struct judge *j, struct tally *t, const struct record *r);
 int judge_one(struct judge *j, struct tally *t, const uint8_t *bytes);
 int judge_recording(struct judge *j, struct tally *t, const uint8_t *bytes, size_t len,
                     struct verdict *v);
-/* What the judging program prints for a whole input; TEXT is enough room. */
-enum { TEXT = 256 };
-int judge_program(const uint8_t *bytes, size_t len, char *text); /* gives the exit status */
+/* What the judging program prints for a whole input; TEXT is enough room. The limit is 16 where the
+   program is given none. */
+enum { TEXT = 256, NO_LIMIT_GIVEN = 16 };
+/* Gives the exit status. */
+int judge_program(unsigned limit, const uint8_t *bytes, size_t len, char *text);
 void judge_text(const struct tally *t, int open, int rule, int refusal, char *text);
 
 /* --- the driver program's calls --- */
