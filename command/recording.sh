@@ -73,10 +73,10 @@ far() { # the place at which it began
 }
 
 # Shows on the terminal how far the program is, on one line that is rewritten each second from the second one on, until it is
-# ended by TERM, and clears the line. It then ends its own sleep too; before the first, $! is still the program.
+# ended by TERM; it then ends its own sleep too (before the first, $! is still the program) and clears the line.
 watch() { # the place at which it began
     shown=
-    trap '[ "$!" = "$program" ] || kill "$!" 2>/dev/null; [ -z "$shown" ] || printf "\r%-45s\r" "" >&2; exit' TERM
+    trap '[ "$!" = "$program" ] || { kill "$!" && wait "$!"; } 2>/dev/null; [ -z "$shown" ] || printf "\r%-45s\r" "" >&2; exit' TERM
     sleep 2 &
     wait "$!"
     while said=$(far "$1") && [ -n "$said" ]; do # nothing, where the system doesn't tell

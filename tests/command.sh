@@ -238,6 +238,8 @@ to_closed() { "$@" >&-; }
 to_reader() { "$@" 1</dev/null; }
 # The reader of the pipe is gone when the command begins.
 to_nobody() { { sleep 1; "$@"; echo $? >"$work/status"; } | true; return "$(cat "$work/status")"; }
+# The bytes of the recording that are left when the command has ended.
+left_by_closed() { { "$spur" judge - >&- 2>/dev/null; cat; } <"$boot" | wc -c; }
 unwritten="spur: standard output can't be written"
 
 outputs() {
@@ -249,6 +251,7 @@ outputs() {
         skip 'a full standard output: there is no /dev/full'
     fi
     expect 'a closed standard output' 3 '' "*$unwritten" to_closed "$spur" judge "$boot"
+    expect 'a closed standard output is told before the recording is read' 0 65536 '' left_by_closed
     expect 'a standard output that is open for reading' 3 '' "*$unwritten" to_reader "$spur" judge "$boot"
     expect 'a pipe without a reader' 3 '' "*$unwritten" to_nobody "$spur" judge "$boot"
 }

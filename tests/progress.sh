@@ -1,30 +1,41 @@
 # shellcheck shell=sh disable=SC2154
 # Part of tests/command.sh: how far a recording is, on a terminal alone, and what an interrupt leaves.
 
-# Half of a recording, and the other half after three seconds.
-slowly() {
-    { head -c 32768 "$boot" && sleep 3 && tail -c 32768 "$boot"; } >"$work/fifo" &
+# Half of a recording, and the other half after so many seconds.
+slowly() { # SECONDS
+    { head -c 32768 "$boot" && sleep "$1" && tail -c 32768 "$boot"; } >"$work/fifo" &
 }
 from_slow() {
-    slowly
+    slowly 3
     "$spur" judge "$work/fifo"
 }
 
-# A command for the shell on a terminal of its own, whose every character goes to $work/terminal. What it starts has a mark, by
-# which left_over finds it.
-on_terminal() { # COMMAND
-    MARK=$work SPUR=$spur WORK=$work BOOT=$boot script -qec "$1" /dev/null >"$work/terminal"
+# The judge on a terminal of its own, whose every character goes to $work/terminal. What the command starts has a mark, by which
+# what is left of it is found, before the terminal's own end can end it. A command that was begun in the background ignores
+# Control-C, and so does all that it starts, unless env can undo that.
+plain=
+if env --default-signal=INT,QUIT true 2>/dev/null; then plain='env --default-signal=INT,QUIT'; fi
+on_terminal() {
+    # shellcheck disable=SC2016
+    WORK=$work SPUR=$spur $plain script -qec 'trap : INT; MARK=$WORK "$SPUR" judge "$WORK/fifo" >"$WORK/out"
+        status=$?; grep -ls "MARK=$WORK" /proc/[0-9]*/environ >"$WORK/left"; exit $status' /dev/null >"$work/terminal"
 }
-left_over() { grep -ls "MARK=$work" /proc/[0-9]*/environ; }
+none_left() { count "$1: no process is left" "$([ ! -s "$work/left" ] && echo 0 || echo 1)" "$(cat "$work/left")"; }
 
 # What stood on the terminal's lines one after the other, without the blanks that clear them.
 lines_shown() { tr '\r' '\n' <"$work/terminal" | sed -e 's/ *$//' -e '/^$/d'; }
 cleared() { [ -z "$(tr '\r' '\n' <"$work/terminal" | tail -n 1 | tr -d ' ')" ]; }
 
+quick_on_terminal() {
+    slowly 1
+    on_terminal </dev/null
+    count 'a second on a terminal shows nothing' "$([ ! -s "$work/terminal" ] && echo 0 || echo 1)" "$(lines_shown)"
+    none_left 'a second on a terminal'
+}
+
 slow_on_terminal() {
-    slowly
-    # shellcheck disable=SC2016
-    on_terminal '"$SPUR" judge "$WORK/fifo" >"$WORK/out"' </dev/null
+    slowly 3
+    on_terminal </dev/null
     status=$? shown=$(lines_shown)
     count 'a slow pipe on a terminal: its lines' "$([ "$status $(cat "$work/out")" = "0 $conforms" ] && echo 0 || echo 1)" \
         "status $status; $(cat "$work/out")"
@@ -35,6 +46,7 @@ slow_on_terminal() {
     count 'a slow pipe on a terminal: nothing else is shown' \
         "$(printf '%s\n' "$shown" | grep -qv '^spur: about [0-9]* bytes$' && echo 1 || echo 0)" "$shown"
     count 'a slow pipe on a terminal: the line is cleared' "$(cleared && echo 0 || echo 1)" "$shown"
+    none_left 'a slow pipe on a terminal'
 }
 
 # Whether the pipe's writer, which was started last, found no reader.
@@ -44,10 +56,12 @@ no_reader() { ! wait "$writer" 2>/dev/null; }
 interrupt_on_terminal() {
     { sleep 4 && printf 0123456789abcdef; } >"$work/fifo" 2>/dev/null &
     writer=$!
-    # shellcheck disable=SC2016
-    { sleep 3 && printf '\003' && sleep 1; } | on_terminal '"$SPUR" judge "$WORK/fifo" >"$WORK/out"'
+    { sleep 3 && printf '\003' && sleep 1; } | on_terminal
+    status=$?
     no_reader
     count 'Control-C ends the program' $? 'the pipe still had a reader'
+    count 'Control-C is the end of the command' "$([ $status -eq 130 ] && echo 0 || echo 1)" "status $status"
+    none_left 'Control-C'
     count 'Control-C clears the line' "$(grep -q bytes "$work/terminal" && cleared && echo 0 || echo 1)" "$(lines_shown)"
     count 'Control-C: nothing is printed' "$([ ! -s "$work/out" ] && echo 0 || echo 1)" "$(cat "$work/out")"
 }
@@ -55,7 +69,7 @@ interrupt_on_terminal() {
 terminated() {
     { sleep 2 && printf 0123456789abcdef; } >"$work/fifo" 2>/dev/null &
     writer=$!
-    MARK=$work "$spur" judge "$work/fifo" >"$work/out" 2>&1 &
+    "$spur" judge "$work/fifo" >"$work/out" 2>&1 &
     judging=$!
     sleep 1
     kill "$judging"
@@ -85,6 +99,7 @@ of_a_file() {
 
 progress() {
     expect 'a slow pipe without a terminal' 0 "$conforms" '' from_slow
+    terminated
     if [ ! -r /proc/self/io ] || [ ! -r /proc/self/fdinfo/0 ]; then
         skip "progress: this system doesn't tell how far a process is"
         return
@@ -92,14 +107,11 @@ progress() {
     expect 'how far it is in a file' 0 '16384 bytes, 25 per cent
 8192 bytes, 14 per cent' '' of_a_file
     if script -qec true /dev/null </dev/null >/dev/null 2>&1; then
-        # shellcheck disable=SC2016
-        on_terminal '"$SPUR" judge "$BOOT" >/dev/null' </dev/null
-        count 'a quick recording shows nothing on a terminal' "$([ ! -s "$work/terminal" ] && echo 0 || echo 1)" "$(lines_shown)"
+        quick_on_terminal
         slow_on_terminal
-        interrupt_on_terminal
+        # shellcheck disable=SC2016
+        if $plain sh -c 'kill -s INT $$'; then skip 'Control-C: it is ignored here'; else interrupt_on_terminal; fi
     else
         skip "progress on a terminal: there is no script of util-linux"
     fi
-    terminated
-    count 'no process is left' "$(left_over >/dev/null && echo 1 || echo 0)" "$(left_over)"
 }
