@@ -29,7 +29,7 @@ esac
 RT
     printf '%s\n' '#!/bin/sh' 'shift 2' 'exec "$@"' >"$library/ld-linux-x86-64.so.2"
     # shellcheck disable=SC2016
-    printf '%s\n' '#!/bin/sh' 'cat >/dev/null' 'printf "$SAYS"' '[ -z "${COMPLAINS:-}" ] || echo "$COMPLAINS" >&2' \
+    printf '%s\n' '#!/bin/sh' '[ -z "${PAUSES:-}" ] || { dd bs="$PAUSES" count=1 >/dev/null 2>&1 && sleep 3; }' 'cat >/dev/null' 'printf "$SAYS"' '[ -z "${COMPLAINS:-}" ] || echo "$COMPLAINS" >&2' \
         '[ -z "${ENDS:-}" ] || kill -s "$ENDS" $$' >"$kit/program"
     chmod 755 "$kit/bin/rt" "$library/ld-linux-x86-64.so.2" "$kit/program"
 }
@@ -56,9 +56,25 @@ spur: proving spurjudge'
     expect 'it is tried again' 0 'conforming' "$proofs" there SAYS='conforming\n'
 }
 
+# A file on a terminal, of which the first 8,192 bytes are gone when the command begins; the program reads 16,384 and pauses.
+file_on_terminal() {
+    # shellcheck disable=SC2016
+    env PATH="$kit/bin:$PATH" KIT="$kit" TREE="$tree" WORK="$work" BOOT="$boot" PAUSES=16384 SAYS='conforming\n' script -qec \
+        '{ dd bs=8192 count=1 >/dev/null 2>&1; "$TREE/spur" judge >"$WORK/out"; } <"$BOOT"' /dev/null </dev/null >"$work/terminal"
+    status=$? first=$(lines_shown | sed -n 1p)
+    count 'a file on a terminal: its line' "$([ "$status $(cat "$work/out")" = '0 conforming' ] && echo 0 || echo 1)" "status $status"
+    count 'a file on a terminal: how far it is' "$([ "$first" = 'spur: 16384 bytes, 28 per cent' ] && echo 0 || echo 1)" "$first"
+    count 'a file on a terminal: the line is cleared' "$(cleared && echo 0 || echo 1)" "$(lines_shown)"
+}
+
 first_use() {
     made_up
     building
+    if [ -r /proc/self/fdinfo/0 ] && script -qec true /dev/null </dev/null >/dev/null 2>&1; then
+        file_on_terminal
+    else
+        skip 'a file on a terminal: there is no script of util-linux, or the system does not tell'
+    fi
     expect 'a program that says nothing' 3 '' 'spur: *verdict (status 0)' there SAYS=
     expect 'a program that only complains' 3 '' 'spur: odd: input' there SAYS= COMPLAINS='odd: input'
     expect 'a verdict, and another line' 3 'conforming
