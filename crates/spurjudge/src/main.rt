@@ -1,194 +1,72 @@
-// The judging program (document 01, "Checked examples"): it judges the recording on standard input with hold limit 16 and prints two lines,
-// the totals and the verdict. However long the input is, it keeps one buffer, the judge's state and the tally.
-ghost use Prim.Native.Nat.{_+_, _≤_, _<_};
+// The judging program (document 01, "Checked examples"): it judges the recording on standard input, with hold limit 16 or the one that its argument
+// says, and prints two lines, the totals and the verdict. It reads, feeds and writes; what the input comes to is decided by `stream`, and
+// what is printed by `printed`.
 ghost use mathlib.Core.Path.{_≡_};
+ghost use mathlib.Core.Bool.{true};
+ghost use Prim.Native.Nat.{ℕ, min};
+ghost use lib.IntN.{ℤ};
 ghost use lib.ListN.{length};
+ghost use Rattle.basics.specs.Numbers.{lawfulLimit};
+ghost use Rattle.stream.specs.State.{freshStream};
+ghost use Rattle.spurjudge.specs.Reads.{afterRead, ReadOut};
+ghost use Rattle.spurjudge.specs.Pages.{limitGiven, Prints};
 use libc::STDERR_FILENO;
 use libc::STDIN_FILENO;
 use libc::STDOUT_FILENO;
-use rules::Fresh;
-use rules::Judge;
-use rules::Outcome;
-use rules::Tally;
-use rules::Verdict;
+use stream::Stream;
+use text::Number;
 
-// The input so far: what its whole records came to, and how many bytes of a torn one stand at the front of the buffer.
+// The input so far: whether to read on, and whether the last read failed.
 struct Input {
-    so_far: Outcome,
-    torn: usize,
+    stream: Stream,
     more: bool,
     failed: bool,
 }
 
-fn conforms(verdict: Verdict) -> bool {
-    match verdict {
-        Verdict::Conforming => true,
-        Verdict::Breach(_) => false,
-        Verdict::OutOfBounds => false,
-        Verdict::TooMany => false,
-        Verdict::Torn => false,
-    }
-}
+// ---- reading
 
-// How many of the next n records the judge takes: 2^30 in all.
-fn taken(records: u32, n: usize) -> usize
-    ensures { λ r. ⌜ r ≤ n ⌝ }
+// Takes in what a read brought: its answer, and the buffer after it.
+fn take_in(got: isize, buffer: &[u8], input: Input) -> Input
+    ensures { λ r. ⌜ r ≡ afterRead input (record { got = got; buffer = now (buffer .entry) }) ⌝ }
 {
-    if records <= Judge::MOST_RECORDS {
-        let room = (Judge::MOST_RECORDS - records) as usize;
-        if room < n {
-            return room;
-        }
-        return n;
-    }
-    0
-}
-
-fn with_verdict(from: Outcome, verdict: Verdict) -> Outcome {
-    let state = from.judge;
-    let totals = from.tally;
-    Outcome {
-        verdict: verdict,
-        judge: state,
-        tally: totals,
-    }
-}
-
-// Judges the whole records of these bytes. At one past 2^30 the verdict is refusal 8, unless there was a breach before it.
-fn judge_whole(bytes: &[u8], from: Outcome) -> Outcome {
-    let n = bytes.len() / 16;
-    let state = from.judge;
-    let totals = from.tally;
-    let taken = taken(totals.records, n);
-    let end = taken * 16;
-    let next = judge::judge_all(&bytes[..end], state, totals);
-    let verdict = next.verdict;
-    if (taken < n) & conforms(verdict) {
-        return with_verdict(next, Verdict::TooMany);
-    }
-    next
-}
-
-// Moves the torn record that ends before `end` to the front.
-fn move_front(buffer: &mut [u8], from: usize, n: usize)
-    requires { ⌜ from + n ≤ length (now buffer) ⌝ }
-    ensures { λ _. ⌜ length (now (buffer .exit)) ≡ length (now (buffer .entry)) ⌝ }
-{
-    let mut i: usize = 0;
-    while i < n {
-        buffer[i] = buffer[from + i];
-        i += 1;
-    }
-}
-
-// Reads once more, behind the torn record, and judges what is whole.
-fn read_more(buffer: &mut [u8], input: Input) -> Input
-    requires { ⌜ input .torn < 16 ⌝ }
-    requires { ⌜ length (now buffer) ≡ 65536 ⌝ }
-    ensures { λ r. ⌜ r .torn < 16 ⌝ }
-    ensures { λ _. ⌜ length (now (buffer .exit)) ≡ 65536 ⌝ }
-{
-    let torn = input.torn;
-    let so_far = input.so_far;
-    let got = libc::read(STDIN_FILENO, &mut buffer[torn..]);
-    let n = io::count(got, &buffer[torn..]);
+    let n = io::count(got, buffer);
+    let stream = input.stream;
     if n == 0 {
         return Input {
-            so_far: so_far,
-            torn: torn,
+            stream: stream,
             more: false,
             failed: got < 0,
         };
     }
-    let have = torn + n;
-    let rest = have % 16;
-    let whole = have - rest;
-    let next = judge_whole(&buffer[..whole], so_far);
-    let verdict = next.verdict;
-    move_front(buffer, whole, rest);
+    let fed = stream.feed(&buffer[..n]);
+    let next = fed.stream;
+    let stop = next.stop;
     Input {
-        so_far: next,
-        torn: rest,
-        more: conforms(verdict),
+        stream: next,
+        more: stream::is_going(stop),
         failed: false,
     }
 }
 
-fn print_count(name: &[u8], n: u64) -> bool {
-    let named = io::write_all(STDOUT_FILENO, name);
-    let counted = io::print_decimal(STDOUT_FILENO, n);
-    named & counted
+// Reads once more.
+fn read_more(buffer: &mut [u8], input: Input) -> Input
+    ensures { λ r. ⌜ ((got : ℤ) × (r ≡ afterRead input (record { got = got; buffer = now (buffer .exit) }))) ⌝ }
+{
+    let got = libc::read(STDIN_FILENO, buffer);
+    take_in(got, buffer, input)
 }
 
-fn print_totals(tally: Tally, open: bool) -> bool {
-    let records = print_count(b"records ", tally.records as u64);
-    let span = print_count(b" span ", tally.span);
-    let starts = print_count(b" starts ", tally.starts as u64);
-    let acks = print_count(b" acks ", tally.acks as u64);
-    let aborted = print_count(b" aborted ", tally.aborted as u64);
-    let opened = print_count(b" open ", basics::one_if(open) as u64);
-    let end = io::write_all(STDOUT_FILENO, b"\n");
-    records & span & starts & acks & aborted & opened & end
-}
-
-fn print_verdict(verdict: Verdict) -> bool {
-    match verdict {
-        Verdict::Conforming => io::write_all(STDOUT_FILENO, b"conforming\n"),
-        Verdict::Breach(broken) => {
-            let rule = print_count(b"breach rule ", broken.rule as u64);
-            let place = print_count(b" record ", broken.place as u64);
-            let end = io::write_all(STDOUT_FILENO, b"\n");
-            rule & place & end
-        }
-        Verdict::OutOfBounds => io::write_all(STDOUT_FILENO, b"refused 5\n"),
-        Verdict::TooMany => io::write_all(STDOUT_FILENO, b"refused 8\n"),
-        Verdict::Torn => io::write_all(STDOUT_FILENO, b"refused 1\n"),
-    }
-}
-
-// A torn end is refusal 1, unless something else ended the judging before it.
-fn ending(input: Input) -> Outcome {
-    let end = input.so_far;
-    let verdict = end.verdict;
-    if (0 < input.torn) & conforms(verdict) {
-        return with_verdict(end, Verdict::Torn);
-    }
-    end
-}
-
-// No verdict after a read that failed: what was not read may break a rule.
-fn report(input: Input) {
-    if input.failed {
-        io::write_all(STDERR_FILENO, b"spurjudge: standard input can't be read\n");
-        return;
-    }
-    let end = ending(input);
-    let state = end.judge;
-    let transfer = state.transfer;
-    let totals = end.tally;
-    let verdict = end.verdict;
-    if print_totals(totals, rules::is_open(transfer)) {
-        print_verdict(verdict);
-    }
-}
-
-// Every read but the last brings a byte or more, and the judging ends at 2^30 records: so many turns are never taken.
-fn judge_input(fresh: Judge) {
-    let mut space = io::large_buffer();
-    let buffer: &mut [u8] = &mut space;
-    let tally = Tally::zero();
-    let start = Outcome {
-        verdict: Verdict::Conforming,
-        judge: fresh,
-        tally: tally,
-    };
+// Reads until it need read no more. Every read but the last brings a byte or more, and with the bytes of one record past 2^30 the judging has ended: so
+// many turns are enough.
+fn read_all(buffer: &mut [u8], begun: Stream) -> Input
+    ensures { λ r. ⌜ ((limit : ℕ) → lawfulLimit limit ≡ true → begun ≡ freshStream limit → ReadOut limit r) ⌝ }
+{
     let mut input = Input {
-        so_far: start,
-        torn: 0,
+        stream: begun,
         more: true,
         failed: false,
     };
-    let mut turns = u64::MAX;
+    let mut turns: u64 = 17179869200;
     while turns > 0 {
         if !input.more {
             break;
@@ -196,12 +74,94 @@ fn judge_input(fresh: Judge) {
         input = read_more(buffer, input);
         turns -= 1;
     }
-    report(input);
+    input
+}
+
+// ---- judging
+
+// The text that is to be printed, so many bytes of it, or that standard input can't be read.
+enum Said {
+    Page(usize),
+    CantRead,
+}
+
+// A hold limit as the library takes it: any over 255 is as unlawful as 255.
+fn narrowed(limit: u64) -> u8
+    ensures { λ r. ⌜ r ≡ min limit 255 ⌝ }
+{
+    if limit < 255 { limit as u8 } else { 255 }
+}
+
+// The text for an input that has been read. No verdict after a read that failed: what was not read may break a rule.
+fn told(input: Input, text: &mut [u8]) -> Said
+    requires { ⌜ length (now text) ≡ 256 ⌝ }
+    ensures { λ r. ⌜ ((limit : ℕ) → lawfulLimit limit ≡ true → ReadOut limit input → Prints limit (now (text .exit)) r) ⌝ }
+{
+    if input.failed {
+        return Said::CantRead;
+    }
+    let stream = input.stream;
+    let ending = stream.finish();
+    let lines = printed::put_ending(text, ending);
+    Said::Page(lines.at)
+}
+
+// Judges what the reads bring, and makes the text of it.
+fn judge_input(limit: u64, buffer: &mut [u8], text: &mut [u8]) -> Said
+    requires { ⌜ length (now text) ≡ 256 ⌝ }
+    ensures { λ r. ⌜ Prints limit (now (text .exit)) r ⌝ }
+{
+    let begun = Stream::fresh(narrowed(limit));
+    if begun.number != 0 {
+        let line = printed::put_refusal(text, begun.number);
+        return Said::Page(line.at);
+    }
+    let fresh = begun.stream;
+    let input = read_all(buffer, fresh);
+    told(input, text)
+}
+
+// ---- the program
+
+fn complain(line: &[u8]) {
+    io::write_all(STDERR_FILENO, line);
+}
+
+fn print(page: &[u8]) {
+    if !io::write_all(STDOUT_FILENO, page) {
+        complain(b"spurjudge: standard output can't be written\n");
+    }
+}
+
+fn judge(limit: u64) {
+    let mut buffer = io::large_buffer();
+    let mut text = [0u8; 256];
+    let said = judge_input(limit, &mut buffer, &mut text);
+    match said {
+        Said::Page(n) => print(&text[..n]),
+        Said::CantRead => complain(b"spurjudge: standard input can't be read\n"),
+    }
+}
+
+// The hold limit: 16, or what the program's one argument says.
+fn limit_given(words: usize, second: &[u8]) -> Number
+    ensures { λ r. ⌜ r ≡ limitGiven words (now (second .entry)) ⌝ }
+{
+    if words < 2 {
+        return Number::Is(16);
+    }
+    if 2 < words {
+        return Number::NotANumber;
+    }
+    text::number_in(second)
 }
 
 fn main() {
-    match Judge::fresh(16) {
-        Fresh::Ready(judge) => judge_input(judge),
-        Fresh::BadLimit => {}
+    let mut word = io::buffer();
+    let size = os::arg(1, &mut word);
+    let given = limit_given(os::arg_count(), &word[..size]);
+    match given {
+        Number::Is(limit) => judge(limit),
+        Number::NotANumber => complain(b"spurjudge: the hold limit is to be one number\n"),
     }
 }

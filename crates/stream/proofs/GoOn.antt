@@ -1,6 +1,6 @@
 -- Laws of going on: what is judged of the bytes, what is kept of them, and that a piece after a piece is as both at once. Assumes nothing.
 use Prim.Native.Nat.{ℕ, zero, suc, _+_, _-_, _*_, _/_, _%_, _≤_, _<_, min}
-use mathlib.Core.Bool.{Bool, true, false, cond}
+use mathlib.Core.Bool.{Bool, true, false, cond, false≢true}
 use mathlib.Core.List.{List, [], _∷_, _++_, append-assoc, append-nil}
 use mathlib.Core.Path.{_≡_, refl, sym, ap, subst, _∙_}
 use native.Mathlib.Omega.{arith}
@@ -263,3 +263,19 @@ unfolding feedOf
 feed-whole j t x y even g =
     let s : Stream = goneOn j t x in
     cond-true _ _ g ∙ ap (λ (k : ℕ). goneOn (s .judge) (s .tally) (take k (s .torn) ++ y)) (gone-whole j t x even)
+
+-- while the judging goes on, no whole record past 2^30 was given
+pub going-within : (j : Judge) (t : Tally) (x : List ℕ) → goes (goneOn j t x .stop) ≡ true → t .records + wholeIn x ≤ mostRecords
+unfolding goneOn
+going-within j t x g =
+    by-test (ltb mostRecords (t .records + wholeIn x))
+    (λ over. by-test (eqb (p .rule) 0)
+    (λ e. absurd (false≢true (sym (ap (λ (s : Stream). goes (s .stop)) (ap (λ (b : Bool). stateAfter b p rest) over ∙ after-past p rest (eqb-true (p .rule) 0 e))) ∙ g)))
+    (λ e. absurd (false≢true (sym (ap (λ (s : Stream). goes (s .stop)) (after-breach (ltb mostRecords (t .records + wholeIn x)) p rest (eqb-false (p .rule) 0 e))) ∙ g))))
+    (ltb-false mostRecords (t .records + wholeIn x))
+  where
+    p : Progress
+    p = judgedOf j t x
+
+    rest : List ℕ
+    rest = drop (wholeIn x * 16) x

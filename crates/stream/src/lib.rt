@@ -52,9 +52,8 @@ pub struct Ending {
     pub opened: bool,
 }
 
-// ---- parts of a piece
-
-fn is_going(stop: Stop) -> bool
+// Whether nothing has ended the judging yet, so that more of the input counts.
+pub fn is_going(stop: Stop) -> bool
     ensures { λ r. ⌜ r ≡ goes stop ⌝ }
 {
     match stop {
@@ -63,6 +62,8 @@ fn is_going(stop: Stop) -> bool
         Stop::PastMost => false,
     }
 }
+
+// ---- parts of a piece
 
 fn least(a: usize, b: usize) -> usize
     ensures { λ r. ⌜ r ≡ min a b ⌝ }

@@ -1,61 +1,56 @@
 -- `spurjudge::judge_input` meets its contract. Assumes nothing.
-use Prim.Native.Nat.{_<_}
-use mathlib.Core.Path.{_≡_}
-use native.Mathlib.Omega.{arith}
-use lib.ListN.{length}
+use Rattle.spurjudge.proofs.Printing.{refused-says, begun-lawful}
 use borrow.Author.Needs.{needs}
 use Rattle.spurjudge.proofs.judge_input.Statement.{statement}
 use Rattle.spurjudge.proofs.judge_input.Tie as tie
 
-abbrev Inv-loop : tie.InvT-loop
-Inv-loop buffer₀ input₀ turns₀ buffer input turns = (input .torn < 16) × (length buffer ≡ 65536)
+narrowed-requires : tie.Need-narrowed-requires
+narrowed-requires c κs = search needs
 
-abbrev μ-loop : tie.MeasureT-loop
-μ-loop buffer₀ input₀ turns₀ buffer input turns = turns
+fresh-requires : tie.Need-fresh-requires
+fresh-requires c κs = search needs
 
-large-buffer-requires : tie.Need-large-buffer-requires Inv-loop μ-loop
-large-buffer-requires c κs = search needs
+put-refusal-requires : tie.Need-put-refusal-requires
+put-refusal-requires c κs = search needs
 
-slice-aggregate-buffer : tie.Need-slice-aggregate-buffer Inv-loop μ-loop
-slice-aggregate-buffer c = search needs
+same-length : tie.Need-same-length
+same-length c = search needs
 
-zero-requires : tie.Need-zero-requires Inv-loop μ-loop
-zero-requires c κs = search needs
+returns : tie.Need-returns
+returns c =
+    let a = c .before .before .before .before .before .before .before .before .before .before .args in
+    let line = c .before .before .put-refusal in
+    refused-says (a .limit) (c .before .before .before .before .before .before .before .narrowed .result) (c .before .before .before .before .before .before .fresh .result) (a .text .now) (line .last .0) (line .result) (c .before .before .before .before .before .before .before .before .before .before .pre) (c .before .before .before .before .before .before .before .narrowed .ensures) (c .before .before .before .before .before .before .fresh .ensures) (c .before .before .before .before .if1 .taken) (line .ensures .0) (line .ensures .1)
 
-loop-holds : tie.Need-loop-holds Inv-loop μ-loop
-loop-holds c = search needs
+read-all-requires : tie.Need-read-all-requires
+read-all-requires c κs = search needs
 
-read-more-requires : tie.Need-read-more-requires Inv-loop μ-loop
-read-more-requires c κs = search needs
+told-requires : tie.Need-told-requires
+told-requires c κs = search needs
 
-sub-turns : tie.Need-sub-turns Inv-loop μ-loop
-sub-turns c = search needs
+same-length-2 : tie.Need-same-length-2
+same-length-2 c = search needs
 
-loop-less : tie.Need-loop-less Inv-loop μ-loop
-loop-less c = search needs
+same-length-3 : tie.Need-same-length-3
+same-length-3 c = search needs
 
-loop-again : tie.Need-loop-again Inv-loop μ-loop
-loop-again c = search needs
-
-report-requires : tie.Need-report-requires Inv-loop μ-loop
-report-requires c κs = search needs
-
-returns : tie.Need-returns Inv-loop μ-loop
-returns c = search needs
+returns-2 : tie.Need-returns-2
+returns-2 c =
+    let a = c .before .before .before .before .before .before .before .before .before .before .before .before .before .before .before .args in
+    let begun = begun-lawful (a .limit) (c .before .before .before .before .before .before .before .before .before .before .before .before .narrowed .result) (c .before .before .before .before .before .before .before .before .before .before .before .fresh .result) (c .before .before .before .before .before .before .before .before .before .before .before .before .narrowed .ensures) (c .before .before .before .before .before .before .before .before .before .before .before .fresh .ensures) (c .before .before .before .before .before .before .before .before .before .if1 .left) in
+    c .before .before .told .ensures (a .limit) (begun .0) (c .before .before .before .before .before .before .read-all .ensures (a .limit) (begun .0) (begun .1))
 
 pub judge-input-spec : {M : Type 1} → statement M
 judge-input-spec =
     tie.close
     (tie.spec
-    Inv-loop
-    μ-loop
-    large-buffer-requires
-    slice-aggregate-buffer
-    zero-requires
-    loop-holds
-    read-more-requires
-    sub-turns
-    loop-less
-    loop-again
-    report-requires
-    returns)
+    narrowed-requires
+    fresh-requires
+    put-refusal-requires
+    same-length
+    returns
+    read-all-requires
+    told-requires
+    same-length-2
+    same-length-3
+    returns-2)

@@ -1,0 +1,63 @@
+-- `spurjudge::read_all` meets its contract: after each turn all that the reads brought has been fed. Assumes nothing.
+use Prim.Native.Nat.{ℕ, _-_}
+use mathlib.Core.Path.{_≡_, refl, _∙_}
+use native.Mathlib.Omega.{arith}
+use lib.ListN.{length}
+use borrow.Author.Needs.{needs}
+use Rattle.stream.specs.State.{freshStream}
+use Rattle.spurjudge.proofs.Reading.{not-off, not-on, Turning, turns-from, turns-on, turns-end, turns-stop}
+use Rattle.spurjudge.proofs.read_all.Statement.{statement}
+use Rattle.spurjudge.proofs.read_all.Tie as tie
+
+abbrev Inv-loop : tie.InvT-loop
+Inv-loop buffer₀ input₀ turns₀ buffer input turns = (length buffer ≡ length buffer₀) × ((limit : ℕ) → input₀ .stream ≡ freshStream limit → Turning limit turns input)
+
+abbrev μ-loop : tie.MeasureT-loop
+μ-loop buffer₀ input₀ turns₀ buffer input turns = turns
+
+loop-holds : tie.Need-loop-holds Inv-loop μ-loop
+loop-holds c = (refl, λ limit e. turns-from limit (c .before .args .begun) e)
+
+read-more-requires : tie.Need-read-more-requires Inv-loop μ-loop
+read-more-requires c κs = search needs
+
+sub-turns : tie.Need-sub-turns Inv-loop μ-loop
+sub-turns c = omega arith
+
+loop-less : tie.Need-loop-less Inv-loop μ-loop
+loop-less c = omega arith
+
+loop-again : tie.Need-loop-again Inv-loop μ-loop
+loop-again c =
+    let l = c .before .before .before .before .before .before .before .loop in
+    let more = c .before .before .before .before .if1 .left in
+    let got = c .before .before .read-more .ensures in
+    (c .before .before .read-more .kept .0 ∙ l .inv .0, λ limit e. turns-on limit (l .turns) (l .turns - 1) (l .input) _ _ (l .inv .1 limit e) (not-off (l .input .more) more) (got .1) (omega arith))
+
+same-length : tie.Need-same-length Inv-loop μ-loop
+same-length c = c .before .loop .inv .0
+
+returns : tie.Need-returns Inv-loop μ-loop
+returns c = λ limit lawful e. turns-end limit lawful (c .before .loop .turns) (c .before .loop .input) (c .before .loop .inv .1 limit e) (omega arith)
+
+same-length-2 : tie.Need-same-length-2 Inv-loop μ-loop
+same-length-2 c = c .before .before .before .loop .inv .0
+
+returns-2 : tie.Need-returns-2 Inv-loop μ-loop
+returns-2 c = λ limit lawful e. turns-stop limit (c .before .before .before .loop .turns) (c .before .before .before .loop .input) (c .before .before .before .loop .inv .1 limit e) (not-on (c .before .before .before .loop .input .more) (c .if1 .taken))
+
+pub read-all-spec : {M : Type 1} → statement M
+read-all-spec =
+    tie.close
+    (tie.spec
+    Inv-loop
+    μ-loop
+    loop-holds
+    read-more-requires
+    sub-turns
+    loop-less
+    loop-again
+    same-length
+    returns
+    same-length-2
+    returns-2)
