@@ -1,3 +1,4 @@
+pub mod ByHand
 pub mod Digits
 pub mod Groups
 pub mod Bytes

@@ -1,3 +1,4 @@
 pub mod Digits
 pub mod Layout
 pub mod Packing
+pub mod Places
