@@ -1,10 +1,12 @@
 pub mod NodeLaws
 pub mod AnswerLaws
 pub mod RunLaws
+pub mod Asking
 pub mod View
 pub mod WaveSets
 pub mod Bounds
 pub mod Alone
+pub mod Answered
 pub mod Nearer
 pub mod Sound
 pub mod NextStart

@@ -6,3 +6,4 @@ pub mod Cycle
 pub mod Nodes
 pub mod Runs
 pub mod Demand3
+pub mod Pinned

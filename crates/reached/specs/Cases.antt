@@ -10,10 +10,10 @@ use Rattle.cycle.specs.declared.Bus.{Bus}
 use Rattle.cycle.specs.declared.Reply.{Reply}
 use Rattle.cycle.specs.declared.Node.{Node}
 use Rattle.cycle.specs.declared.Event.{Event}
-use Rattle.cycle.specs.declared.Event.the-variants.{Nothing, Finish}
+use Rattle.cycle.specs.declared.Event.the-variants.{Nothing, Strobe, Finish}
 use Rattle.cycle.specs.declared.Owner.the-variants.{Nobody, Slot}
 use Rattle.cycle.specs.declared.Ending.the-variants.{Unended, Ended}
-use Rattle.cycle.specs.declared.Note.the-variants.{Clear}
+use Rattle.cycle.specs.declared.Note.the-variants.{Clear, Stray}
 use Rattle.cycle.specs.Bounds.{lawfulWord, lawfulBelow}
 use Rattle.cycle.specs.Nodes.{blank, addOf, gathered, setsOf}
 use Rattle.cycle.specs.Runs.{Input, cycleIn, next}
@@ -23,9 +23,12 @@ unfoldable pub repliesOf : Bus → List Input → List Reply
 repliesOf b [] = []
 repliesOf b (i ∷ is) = (cycleIn b i) .reply ∷ repliesOf (next b i) is
 
--- a node that wants the bus for one word, and one that holds it too
+-- a node that wants the bus for one word, one that wants it for none, and one that holds it too
 abbrev pub asker : Node
 asker = record { wants = true; holds = false; words = 1 }
+
+abbrev pub attender : Node
+attender = record { wants = true; holds = false; words = 0 }
 
 abbrev pub holder : Node
 holder = record { wants = true; holds = true; words = 1 }
@@ -37,12 +40,19 @@ single s n = set (replicate 16 blank) s n
 abbrev pub two : ℕ → Node → ℕ → Node → List Node
 two s n t o = set (single s n) t o
 
--- a cycle in which nobody starts and nothing ends; one with a START; and one with an ACK. The first line is RQST.
+-- a cycle in which nobody starts and nothing ends, the same with a stray event; one with a START, and one with an attention cycle; and one with an ACK.
+-- The first line is RQST.
 abbrev pub quiet : Bool → Reply
 quiet rqst = record { rqst = rqst; start = false; ack = false; starter = Nobody; status = Unended; note = Clear }
 
+abbrev pub stray : Bool → Reply
+stray rqst = record { rqst = rqst; start = false; ack = false; starter = Nobody; status = Unended; note = Stray }
+
 abbrev pub start : Bool → ℕ → Reply
 start rqst s = record { rqst = rqst; start = true; ack = false; starter = Slot s; status = Unended; note = Clear }
+
+abbrev pub attention : Bool → ℕ → Reply
+attention rqst s = record { rqst = rqst; start = true; ack = true; starter = Slot s; status = Unended; note = Clear }
 
 abbrev pub ended : Bool → Status → Reply
 ended rqst s = record { rqst = rqst; start = false; ack = true; starter = Nobody; status = Ended s; note = Clear }
@@ -96,3 +106,33 @@ holdInputs =
 unfoldable pub holdReplies : List Reply
 holdReplies =
     quiet true ∷ quiet true ∷ start true 12 ∷ ended true Success ∷ quiet true ∷ start true 12 ∷ ended true Success ∷ quiet true ∷ start false 4 ∷ []
+
+-- ---- not among document 01's examples: the answers that these leave out
+
+-- "A starter that no longer wants, or has words 0, makes an attention cycle; the transfer stays idle.": 10 wants only in cycles 1 and 2, and 5 has
+-- words 0. A strobe in the cycle after finds nothing open.
+unfoldable pub attentionInputs : List Input
+unfolding lawfulBelow lawfulWord setsOf gathered addOf
+attentionInputs =
+    replicate 2 (given Nothing (two 5 attender 10 asker) refl refl)
+    ++ (given Nothing (single 5 attender) refl refl ∷ [])
+    ++ (given Strobe (single 5 attender) refl refl ∷ [])
+    ++ replicate 2 (given Nothing (single 5 attender) refl refl)
+    ++ (given Strobe (replicate 16 blank) refl refl ∷ [])
+
+-- START with ACK, and "status (none unless a transfer ends)"; "An event with nothing open before is noted as stray and drives no line."
+unfoldable pub attentionReplies : List Reply
+attentionReplies =
+    quiet true ∷ quiet true ∷ attention true 10 ∷ stray true ∷ quiet true ∷ attention false 5 ∷ stray false ∷ []
+
+-- P8 with a finish in the watchdog's cycle, at age 256
+unfoldable pub lateInputs : List Input
+unfolding lawfulBelow lawfulWord setsOf gathered addOf
+lateInputs =
+    replicate 3 (given Nothing (single 5 asker) refl refl)
+    ++ replicate 255 (given Nothing (replicate 16 blank) refl refl)
+    ++ (given (Finish Success) (replicate 16 blank) refl refl ∷ [])
+
+-- "A finish gives ACK and idles it": the watchdog's is "At age 256 without a finish"
+unfoldable pub lateReplies : List Reply
+lateReplies = quiet true ∷ quiet true ∷ start false 5 ∷ replicate 255 (quiet false) ++ (ended false Success ∷ [])
