@@ -61,12 +61,15 @@ reads stamp ad = cycleAt stamp false true false false false 5 ad
 abbrev pub attends : ℕ → ℕ → Record
 attends stamp arb = cycleAt stamp true true true true true arb 0
 
--- ACK with success, with error
+-- ACK with success, with error, with timeout
 abbrev pub acks : ℕ → Record
 acks stamp = cycleAt stamp false false true true true 0 0
 
 abbrev pub fails : ℕ → Record
 fails stamp = cycleAt stamp false false true true false 0 0
+
+abbrev pub timesOut : ℕ → Record
+timesOut stamp = cycleAt stamp false false true false true 0 0
 
 -- TM0 with neither START nor ACK
 abbrev pub strobes : ℕ → Record
@@ -88,6 +91,12 @@ bytesOf (r ∷ rs) = packed r ++ bytesOf rs
 -- a record whose last spare bit is not zero
 abbrev pub spared : Record → List ℕ
 spared r = take 15 (packed r) ++ (1 ∷ [])
+
+-- SPV over AD 1, with SP or without, written out by hand from document 01's layout: what `packed` and `recordIn` had wrong alike would not show in
+-- the other rows. RESET, RQST, ARB, START and ACK are byte 4; TM1, TM0, SP, SPV are the upper half of byte 5, so that SP is hex 20 there
+-- and SPV hex 10; AD31 to AD28 are its lower half and AD3 to AD0 the upper half of byte 9, so that AD0 is hex 10 there.
+abbrev pub handMade : ℕ → List ℕ
+handMade byte5 = 0 ∷ 0 ∷ 0 ∷ 0 ∷ 0 ∷ byte5 ∷ 0 ∷ 0 ∷ 0 ∷ 0x10 ∷ 0 ∷ 0 ∷ 0 ∷ 0 ∷ 0 ∷ 0 ∷ []
 
 -- the verdict on a recording from the start
 abbrev pub verdictOn : ℕ → List ℕ → Verdict
@@ -117,18 +126,22 @@ row rule limit place breaks twin = record { rule = rule; limit = limit; place = 
 abbrev pub cases : List Case
 cases =
     record { rule = 1; limit = 16; place = 0; breaks = spared (idle 0); twin = bytesOf (idle 0 ∷ []) }
+    -- RESET does not let spare bits pass
+    ∷ record { rule = 1; limit = 16; place = 0; breaks = spared (resets 0); twin = bytesOf (resets 0 ∷ []) }
     -- 0 to 80000001, and to 80000000; equal stamps
     ∷ row 2 16 1 (idle 0 ∷ idle 0x80000001 ∷ []) (idle 0 ∷ idle 0x80000000 ∷ [])
     ∷ row 2 16 1 (idle 7 ∷ idle 7 ∷ []) (idle 7 ∷ idle 8 ∷ [])
     -- FFFFFFFE to 3 is a difference of 5, but 3 to FFFFFFFE is none
     ∷ row 2 16 1 (idle 3 ∷ idle 0xFFFFFFFE ∷ []) (idle 0xFFFFFFFE ∷ idle 3 ∷ [])
     ∷ row 3 16 0 (parity false ∷ []) (parity true ∷ [])
+    ∷ record { rule = 3; limit = 16; place = 0; breaks = handMade 0x10; twin = handMade 0x30 }
     -- START before the ACK, and after it
     ∷ row 4 16 3 (opening 0 ++ (reads 3 0 ∷ [])) (opening 0 ++ (acks 3 ∷ reads 4 0 ∷ []))
     -- a second ACK
     ∷ row 5 16 4 (opening 0 ++ (acks 3 ∷ acks 4 ∷ [])) (opening 0 ++ (acks 3 ∷ []))
-    -- an attention cycle without TM0
+    -- an attention cycle without TM0, and one without TM1
     ∷ row 6 16 2 (asks 0 ∷ asks 1 ∷ cycleAt 2 false true true true false 5 0 ∷ []) (asks 0 ∷ asks 1 ∷ cycleAt 2 false true true true true 5 0 ∷ [])
+    ∷ row 6 16 2 (asks 0 ∷ asks 1 ∷ cycleAt 2 false true true false true 5 0 ∷ []) (asks 0 ∷ asks 1 ∷ cycleAt 2 false true true true true 5 0 ∷ [])
     -- AD 3E and 1E
     ∷ row 7 16 2 (opening 0x3E) (opening 0x1E)
     -- 8a: no owner since the reset; RQST inactive, as in a missing cycle
@@ -149,9 +162,11 @@ cases =
     ∷ row 11 1 5 (turning 5 ++ (asks 3 ∷ asks 4 ∷ attends 5 5 ∷ [])) (turning 5 ++ (asks 3 ∷ asks 4 ∷ attends 5 4 ∷ []))
     -- ACK 257 cycles after START, and 256
     ∷ row 12 16 3 (opening 0 ++ (acks 259 ∷ [])) (opening 0 ++ (acks 258 ∷ []))
-    -- a block of two words: a second strobe; a success without the first; TM0 in a single transfer is no strobe
+    -- a block of two words: a second strobe; a success without the first, where an error and a timeout need none; TM0 in a single transfer is no
+    -- strobe
     ∷ row 13 16 4 (opening 2 ++ (strobes 3 ∷ strobes 4 ∷ [])) (opening 2 ++ (strobes 3 ∷ acks 4 ∷ []))
     ∷ row 13 16 3 (opening 2 ++ (acks 3 ∷ [])) (opening 2 ++ (fails 3 ∷ []))
+    ∷ row 13 16 3 (opening 2 ++ (acks 3 ∷ [])) (opening 2 ++ (timesOut 3 ∷ []))
     ∷ row 13 16 4 (opening 6 ++ (strobes 3 ∷ acks 4 ∷ [])) (opening 0 ++ (strobes 3 ∷ acks 4 ∷ []))
     ∷ []
 
@@ -173,5 +188,5 @@ about (c ∷ cs) = c .rule ∷ about cs
 -- which the last two are cases of the table
 pub record EachRule : Type 0 where
   pub shown : Shown cases
-  pub all : about cases ≡ (1 ∷ 2 ∷ 2 ∷ 2 ∷ 3 ∷ 4 ∷ 5 ∷ 6 ∷ 7 ∷ 8 ∷ 8 ∷ 8 ∷ 8 ∷ 8 ∷ 9 ∷ 9 ∷ 10 ∷ 11 ∷ 12 ∷ 13 ∷ 13 ∷ 13 ∷ [])
+  pub all : about cases ≡ (1 ∷ 1 ∷ 2 ∷ 2 ∷ 2 ∷ 3 ∷ 3 ∷ 4 ∷ 5 ∷ 6 ∷ 6 ∷ 7 ∷ 8 ∷ 8 ∷ 8 ∷ 8 ∷ 8 ∷ 9 ∷ 9 ∷ 10 ∷ 11 ∷ 12 ∷ 13 ∷ 13 ∷ 13 ∷ 13 ∷ [])
   pub p6 : difference 0xFFFFFFFE 3 ≡ 5
