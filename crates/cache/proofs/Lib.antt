@@ -7,5 +7,6 @@ pub mod Refusals
 pub mod Laws
 pub mod Operations
 pub mod Kept
+pub mod Emptied
 pub mod ReadsGive
 pub mod Unchanged

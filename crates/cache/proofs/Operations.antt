@@ -7,7 +7,7 @@ use lib.Dec.{eqb}
 use Rattle.basics.proofs.Bools.{choice, by-test, cond-true, cond-false, not-true}
 use Rattle.cache.specs.States.{invalid, ownedPrivate, legal, valid, private, owns}
 use Rattle.cache.specs.Block.{Block, Coherent, supplied}
-use Rattle.cache.specs.Operations.{blockFetched, blockRead, copyLeft, blockWritten, blockEvicted}
+use Rattle.cache.specs.Operations.{blockFetched, blockRead, blockWritten, blockEvicted}
 use Rattle.cache.proofs.States.{is-invalid, is-unowned, is-shared, is-private, private-owns, owner-valid}
 use Rattle.cache.proofs.Coherence.{coherent-by, memory-supplies, holds-supplied}
 
@@ -112,7 +112,7 @@ module _ (b : Block) (h : Coherent b) (slot : ℕ) (lt : slot < 16) where
       (λ k l. choice (λ x. legal x ≡ true) (eqb k slot) (λ _. is-invalid .known) (λ _. h .within k l))
       (λ i k hi hk oi ok. h .single i k hi hk (owner-left i oi) (owner-left k ok))
       (λ i k hi hk p ne. choice (λ x. x ≡ invalid) (eqb k slot) (λ _. refl) (λ _. h .alone i k hi hk (private-left i p) ne))
-      (λ k l v. let both = kept (eqb k slot) (b .state k) (b .copy k) (copyLeft (b .state slot) (b .copy slot)) v in both .1 ∙ holds-supplied b h k l (both .0))
+      (λ k l v. let both = kept (eqb k slot) (b .state k) (b .copy k) _ v in both .1 ∙ holds-supplied b h k l (both .0))
       (λ none. choice (λ x. supplied b ≡ x) (owns (b .state slot))
       (λ o. sym (holds-supplied b h slot lt (owner-valid _ o)))
       (λ n. memory-supplies b (λ k l. not-true _ (λ o. clash (remains k n o) (none k l)))))

@@ -1,7 +1,9 @@
 -- What the theorems say of a call: its own block becomes what the operation makes of it, and is coherent; "Nothing else changes."
-use Prim.Native.Nat.{ℕ, _<_}
+use Prim.Native.Nat.{ℕ, _+_, _*_, _<_}
+use mathlib.Core.Bool.{true}
 use mathlib.Core.Path.{_≡_}
-use lib.ListN.{length}
+use lib.ListN.{length, getD}
+use Rattle.cache.specs.States.{invalid, valid}
 use Rattle.cache.specs.Block.{Block, Coherent}
 use Rattle.cache.specs.Tables.{Tables, blockOf}
 
@@ -23,3 +25,8 @@ pub record Keeps (t : Tables) (n : ℕ) (b : Block) (next : Tables) : Type 0 whe
 -- every block of the tables is coherent
 abbrev pub AllCoherent : Tables → Type 0
 AllCoherent t = (n : ℕ) → n < length (t .memory) → Coherent (blockOf t n)
+
+-- slot k of block n is invalid in the tables `next`: "A valid slot that becomes invalid gets copy 0"
+pub record Emptied (t : Tables) (n k : ℕ) (next : Tables) : Type 0 where
+  pub becomes : getD (next .states) (16 * n + k) 0 ≡ invalid
+  pub cleared : valid (getD (t .states) (16 * n + k) 0) ≡ true → getD (next .copies) (16 * n + k) 0 ≡ 0
