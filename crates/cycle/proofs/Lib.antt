@@ -6,7 +6,6 @@ pub mod View
 pub mod WaveSets
 pub mod Bounds
 pub mod Alone
-pub mod Answered
 pub mod Nearer
 pub mod Sound
 pub mod NextStart
@@ -16,4 +15,5 @@ pub mod Shares
 pub mod OwnStart
 pub mod Demand3
 pub mod Refusals
+pub mod Replies
 pub mod Kept

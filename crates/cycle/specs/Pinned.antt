@@ -1,5 +1,5 @@
 -- What demand 3's proof by itself does not hold fast, said where a reader sees it, of every bus and every input: the full strength of two of
--- demand 3's words (a weaker word would promise less), and three answers that are not about who starts. Proved in proofs/Asking.antt and Answered.antt.
+-- demand 3's words (a weaker word would promise less), and three answers that are not about who starts. Proved in proofs/Asking.antt and Replies.antt.
 use Prim.Native.Nat.{ℕ, _<_}
 use mathlib.Core.Path.{_≡_}
 use mathlib.Core.Bool.{true, false}
