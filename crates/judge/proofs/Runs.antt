@@ -5,7 +5,7 @@ use mathlib.Core.Path.{_≡_, refl, sym, ap, subst, _∙_}
 use native.Mathlib.Omega.{arith}
 use native.Mathlib.Nat.{sub-zero}
 use lib.ListN.{length, take, drop, length-drop}
-use lib.Seq.{take-all, drop-drop}
+use lib.Seq.{length-take-le, take-all, take-take, drop-drop}
 use Rattle.record.specs.Packing.{linesOf, spareOf}
 use Rattle.record.specs.declared.Record.{Record}
 use Rattle.rules.specs.declared.Judge.{Judge}
@@ -27,11 +27,15 @@ rest-is xs at = take-all (length xs - at) (drop at xs) (simp length-drop (omega 
 abbrev pub recordAt : List ℕ → ℕ → Taken
 recordAt s i = takenIn (take 16 (drop (i * 16) s))
 
-pub record-of : (s : List ℕ) (i : ℕ) (lines : Record) (spare : ℕ) → i < length s / 16 → lines ≡ linesOf (take (length s - i * 16) (drop (i * 16) s)) → spare ≡ spareOf (take (length s - i * 16) (drop (i * 16) s))
+-- from the sixteen bytes that the code lends
+pub record-of : (s : List ℕ) (i : ℕ) (lines : Record) (spare : ℕ) → i < length s / 16 → lines ≡ linesOf (take (i * 16 + 16 - i * 16) (drop (i * 16) s)) → spare ≡ spareOf (take (i * 16 + 16 - i * 16) (drop (i * 16) s))
     → _≡_ {A = Taken} (record { lines = lines; spare = spare }) (recordAt s i)
 record-of s i lines spare lt e f =
-    let r = rest-is s (i * 16) in
-    taken-of (drop (i * 16) s) lines spare (simp length-drop (omega arith)) (e ∙ ap linesOf r) (f ∙ ap spareOf r)
+    let sixteen : i * 16 + 16 - i * 16 ≡ 16 = omega arith in
+    let rest : List ℕ = drop (i * 16) s in
+    let size : length (take 16 rest) ≡ 16 = length-take-le 16 rest (simp length-drop (omega arith)) in
+    taken-of (take 16 rest) lines spare (omega arith) (e ∙ ap (λ (k : ℕ). linesOf (take k rest)) sixteen) (f ∙ ap (λ (k : ℕ). spareOf (take k rest)) sixteen)
+    ∙ ap takenIn (take-take 16 16 rest (omega arith))
 
 pub part-record : (s : List ℕ) (i : ℕ) (k : Judge) (u : Tally) (p : Progress) → p ≡ stepOf k u (takenIn (take 16 (take (length s - i * 16) (drop (i * 16) s)))) → p ≡ stepOf k u (recordAt s i)
 part-record s i k u p e = e ∙ ap (λ (x : List ℕ). stepOf k u (takenIn (take 16 x))) (rest-is s (i * 16))

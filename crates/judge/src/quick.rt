@@ -196,7 +196,8 @@ fn quick(judge: Judge, tally: Tally, lines: Record, spare: u16, d: u32) -> Progr
     undecided(judge, tally)
 }
 
-// Judges the records of a part, up to the first that is not decided quickly.
+// Judges the records of a part, up to the first that is not decided quickly. Just the record's sixteen bytes are lent, so that the compiler sees that
+// there are enough and leaves out the tests of it.
 pub(crate) fn quick_run(part: &[u8], judge: Judge, tally: Tally) -> Reached
     requires { ⌜ Ready judge tally × (tally .records + length (now part) / 16 ≤ 2 ^ 30) ⌝ }
     ensures { λ r. ⌜ Left (now (part .entry)) judge tally r ⌝ }
@@ -207,7 +208,8 @@ pub(crate) fn quick_run(part: &[u8], judge: Judge, tally: Tally) -> Reached
     let mut i: usize = 0;
     while i < n {
         let at = i * 16;
-        let rest = &part[at..];
+        let end = at + 16;
+        let rest = &part[at..end];
         let lines = record::lines_in(rest);
         let spare = record::spare_in(rest);
         let d = breach::difference(state, lines.stamp);

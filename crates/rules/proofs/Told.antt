@@ -133,7 +133,7 @@ records-take m bytes le =
     ∙ ap (λ (k : ℕ). recordsIn k (take (m * 16) bytes ++ drop (m * 16) bytes)) (add-zero m)
     ∙ ap (recordsIn m) (take-append-drop (m * 16) bytes)
 
-zero-sound : SoundTally zeroTally
+pub zero-sound : SoundTally zeroTally
 zero-sound = record { span = omega arith; starts = omega arith; acks = omega arith; aborted = omega arith }
 
 -- the place that the judge has come to

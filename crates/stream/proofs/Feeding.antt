@@ -27,6 +27,7 @@ use Rattle.rules.specs.Exact.{counted, OpenAt, Exact, joined}
 use Rattle.rules.proofs.Laws.{fresh-sound}
 use Rattle.rules.proofs.Reach.{reached}
 use Rattle.rules.proofs.Exactly.{reached-exact, rightly-only, totals-only}
+use Rattle.rules.proofs.Told.{zero-sound}
 use Rattle.stream.specs.declared.Stop.{Stop}
 use Rattle.stream.specs.declared.Stop.the-variants.{Going}
 use Rattle.stream.specs.declared.Stream.{Stream}
@@ -37,9 +38,6 @@ use Rattle.stream.specs.State.{goes, padded, tornOf, streamBounds, taken
 use Rattle.stream.specs.Pieces.{fedAll, Feeding}
 use Rattle.stream.proofs.GoOn.{judgedOf, outcome-taken, breach-verdict, conforming-verdict, after-breach, after-past, after-going, feed-ended, feed-more, gone-sound, gone-held}
 use Rattle.stream.proofs.Calls.{are-bounds}
-
-zero-sound : SoundTally zeroTally
-zero-sound = record { span = omega arith; starts = omega arith; acks = omega arith; aborted = omega arith }
 
 -- ---- all the pieces
 -- pieces after some bytes are as all the bytes at once

@@ -22,6 +22,9 @@ loop-holds c = (refl, left-starts _ _ _ (c .before .pre .0) (c .before .pre .1))
 mul-at : tie.Need-mul-at Inv-loop μ-loop
 mul-at c = omega arith
 
+add-end : tie.Need-add-end Inv-loop μ-loop
+add-end c = omega arith
+
 sub-rest : tie.Need-sub-rest Inv-loop μ-loop
 sub-rest c = omega arith
 
@@ -79,6 +82,7 @@ quick-run-spec =
     μ-loop
     loop-holds
     mul-at
+    add-end
     sub-rest
     part-rest-start
     part-rest-end
