@@ -22,7 +22,7 @@ use Rattle.text.specs.declared.Place.{Place}
 use Rattle.text.specs.Places.{front, movedBy, putAt}
 use Rattle.text.proofs.PlaceLaws.{put-front, put-length, moved-front}
 use Rattle.printed.specs.Lines.{refusedLine, linesOf, pageOf}
-use Rattle.printed.proofs.LineLaws.{lines-room, refusal-room}
+use Rattle.printed.proofs.LineLaws.{lines-most, refusal-most}
 use Rattle.spurjudge.specs.declared.Input.{Input}
 use Rattle.spurjudge.specs.declared.Said.{Said}
 use Rattle.spurjudge.specs.declared.Said.the-variants.{Page, CantRead}
@@ -62,7 +62,7 @@ module _ (limit : ℕ) (lawful : lawfulLimit limit ≡ true) where
   judged-says i text after e p size sound out ee pe ae =
       let bytes : List ℕ = out .bytes in
       let holds = heard-holds limit lawful bytes i (out .heard) in
-      let made = put text after (linesOf e) p (let h = lines-room e in omega arith) pe ae in
+      let made = put text after (linesOf e) p (let h = lines-most e in omega arith) pe ae in
       let is : e ≡ endingOf limit bytes = ee ∙ ap finishOf (holds .state) ∙ ending-of bytes in
       judged (p .at) i (made .within) lawful out sound
       (λ rest b. made .says ∙ ap linesOf (is ∙ sym (behind-same i bytes rest (holds .state) b)) ∙ sym (cond-true _ _ lawful))
@@ -100,7 +100,7 @@ pub refused-says : (limit narrow : ℕ) (begun : Fed) (text after : List ℕ) (p
     → p ≡ movedBy (length text) front (length (refusedLine (begun .number))) → after ≡ putAt text front (refusedLine (begun .number)) → Prints limit after (Page (p .at))
 refused-says limit narrow begun text after p size ne be nz pe ae =
     let refusal = refused-limit limit narrow begun ne be nz in
-    let made = put text after (refusedLine (begun .number)) p (let h = refusal-room (begun .number) in omega arith) pe ae in
+    let made = put text after (refusedLine (begun .number)) p (let h = refusal-most (begun .number) in omega arith) pe ae in
     unlawful (p .at) (made .within) (refusal .0) (λ bytes. made .says ∙ ap refusedLine (refusal .1) ∙ sym (cond-false _ _ (refusal .0)))
 
 -- ---- what is printed stands in the text
