@@ -27,6 +27,10 @@ adds-then {a} {p} {b} {q} {c} {r} {x} {y} f g =
           rw append-assoc at (g .behind (t ++ x) (f .behind t h (omega arith)) (omega arith));
     }
 
+-- the bytes named
+pub adds-is : {a : List ℕ} {p : Place} {b : List ℕ} {q : Place} (x : List ℕ) → Adds a p b q x → Adds a p b q x
+adds-is x f = f
+
 -- the bytes under another name
 pub adds-as : {a : List ℕ} {p : Place} {b : List ℕ} {q : Place} {x y : List ℕ} → y ≡ x → Adds a p b q x → Adds a p b q y
 adds-as e f = rw e f

@@ -2,7 +2,7 @@
 use mathlib.Core.Path.{_≡_, refl}
 use mathlib.Core.Bool.{false}
 use mathlib.Core.List.{[]}
-use Rattle.rules.specs.declared.Verdict.the-variants.{Conforming, Breach}
+use Rattle.rules.specs.declared.Verdict.the-variants.{Conforming, Breach, TooMany, Torn}
 use Rattle.text.specs.Decimal.{spelled, decimalOf}
 use Rattle.text.specs.Words.{word}
 use Rattle.printed.specs.Lines.{totalsLine, refusedLine, breachLine, verdictLine, linesOf, pageOf}
@@ -16,9 +16,13 @@ breach-printed : verdictLine (Breach (record { rule = 8; place = 2783 })) ≡ wo
 unfolding breachLine decimalOf spelled
 breach-printed = refl
 
-refusal-printed : refusedLine 8 ≡ word "refused 8\n"
+past-printed : verdictLine TooMany ≡ word "refused 8\n"
 unfolding refusedLine decimalOf spelled
-refusal-printed = refl
+past-printed = refl
+
+torn-printed : verdictLine Torn ≡ word "refused 1\n"
+unfolding refusedLine decimalOf spelled
+torn-printed = refl
 
 limit-printed : pageOf 17 [] ≡ word "refused 3\n"
 unfolding refusedLine decimalOf spelled

@@ -1,3 +1,3 @@
+pub mod Examples
 pub mod AddingLaws
 pub mod LineLaws
-pub mod Examples

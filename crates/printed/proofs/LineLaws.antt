@@ -1,4 +1,4 @@
--- How long the lines are at most: a page of 256 bytes has room for any of them. Assumes nothing.
+-- How long the lines are at most, where every number has twenty digits. Assumes nothing.
 use Prim.Native.Nat.{ℕ, _≤_}
 use mathlib.Core.Bool.{Bool}
 use mathlib.Core.List.{List}
@@ -7,6 +7,7 @@ use lib.ListN.{length, length-append}
 use Rattle.basics.specs.Lines.{one}
 use Rattle.basics.specs.Numbers.{lawfulLimit}
 use Rattle.basics.proofs.Bools.{choice}
+use Rattle.rules.specs.declared.Broken.{Broken}
 use Rattle.rules.specs.declared.Tally.{Tally}
 use Rattle.rules.specs.declared.Verdict.{Verdict}
 use Rattle.rules.specs.declared.Verdict.the-variants.{Conforming, Breach, OutOfBounds, TooMany, Torn}
@@ -26,25 +27,28 @@ totals-most t opened =
     simp length-append
     (omega (arith, most (t .records), most (t .span), most (t .starts), most (t .acks), most (t .aborted), most (one opened)))
 
-refused-most : (number : ℕ) → length (refusedLine number) ≤ 29
+refused-most : (number : ℕ) → length (refusedLine number) ≤ 61
 unfolding refusedLine
 refused-most number = simp length-append (omega (arith, most number))
 
-verdict-most : (v : Verdict) → length (verdictLine v) ≤ 61
+breach-most : (b : Broken) → length (breachLine b) ≤ 61
 unfolding breachLine
-verdict-most Conforming = omega arith
-verdict-most (Breach b) = simp length-append (omega (arith, most (b .rule), most (b .place)))
-verdict-most OutOfBounds = omega (arith, refused-most 5)
-verdict-most TooMany = omega (arith, refused-most 8)
-verdict-most Torn = omega (arith, refused-most 1)
+breach-most b = simp length-append (omega (arith, most (b .rule), most (b .place)))
 
-pub lines-room : (e : Ending) → length (linesOf e) ≤ 256
-lines-room e =
+verdict-most : (v : Verdict) → length (verdictLine v) ≤ 61
+verdict-most Conforming = omega arith
+verdict-most (Breach b) = omega (arith, breach-most b)
+verdict-most OutOfBounds = refused-most _
+verdict-most TooMany = refused-most _
+verdict-most Torn = refused-most _
+
+pub lines-most : (e : Ending) → length (linesOf e) ≤ 225
+lines-most e =
     simp length-append (omega (arith, totals-most (e .tally) (e .opened), verdict-most (e .verdict)))
 
-pub refusal-room : (number : ℕ) → length (refusedLine number) ≤ 256
-refusal-room number = omega (arith, refused-most number)
+pub refusal-most : (number : ℕ) → length (refusedLine number) ≤ 225
+refusal-most number = omega (arith, refused-most number)
 
-pub page-room : (limit : ℕ) (bytes : List ℕ) → length (pageOf limit bytes) ≤ 256
-page-room limit bytes =
-    choice (λ (l : List ℕ). length l ≤ 256) (lawfulLimit limit) (λ e. lines-room (endingOf limit bytes)) (λ e. refusal-room 3)
+pub page-most : (limit : ℕ) (bytes : List ℕ) → length (pageOf limit bytes) ≤ 225
+page-most limit bytes =
+    choice (λ (l : List ℕ). length l ≤ 225) (lawfulLimit limit) (λ e. lines-most (endingOf limit bytes)) (λ e. refusal-most _)

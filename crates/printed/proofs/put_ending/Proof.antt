@@ -1,7 +1,8 @@
 -- `printed::put_ending` meets its contract: the page has room for both lines, and is put at once. Assumes nothing.
+use native.Mathlib.Omega.{arith}
 use Rattle.printed.specs.Lines.{linesOf}
 use Rattle.printed.proofs.AddingLaws.{Made, adds-then, adds-page, page-put}
-use Rattle.printed.proofs.LineLaws.{lines-room}
+use Rattle.printed.proofs.LineLaws.{lines-most}
 use borrow.Author.Needs.{needs}
 use Rattle.printed.proofs.put_ending.Statement.{statement}
 use Rattle.printed.proofs.put_ending.Tie as tie
@@ -10,7 +11,8 @@ use Rattle.printed.proofs.put_ending.Tie as tie
 made : (c : tie.After-put-verdict) → Made (c .put-verdict .last .0) (c .put-verdict .result .at) (linesOf (c .before .before .before .before .before .before .before .before .args .ending))
 made c =
     let t = c .before .before .before in
-    adds-page (t .before .before .front .ensures) (adds-then (t .put-totals .ensures) (c .put-verdict .ensures)) (lines-room (c .before .before .before .before .before .before .before .before .args .ending))
+    let e = t .before .before .before .before .before .args .ending in
+    adds-page (t .before .before .front .ensures) (adds-then (t .put-totals .ensures) (c .put-verdict .ensures)) (omega (arith, lines-most e))
 
 front-requires : tie.Need-front-requires
 front-requires c κs = search needs

@@ -1,14 +1,17 @@
 -- `printed::put_refusal` meets its contract: the page has room for the line, and is put at once. Assumes nothing.
+use native.Mathlib.Omega.{arith}
 use Rattle.printed.specs.Lines.{refusedLine}
-use Rattle.printed.proofs.AddingLaws.{Made, adds-page, page-put}
-use Rattle.printed.proofs.LineLaws.{refusal-room}
+use Rattle.printed.proofs.AddingLaws.{Made, adds-is, adds-page, page-put}
+use Rattle.printed.proofs.LineLaws.{refusal-most}
 use borrow.Author.Needs.{needs}
 use Rattle.printed.proofs.put_refusal.Statement.{statement}
 use Rattle.printed.proofs.put_refusal.Tie as tie
 
 -- the page holds the line
 made : (c : tie.After-put-refused) → Made (c .put-refused .last .0) (c .put-refused .result .at) (refusedLine (c .before .before .before .before .args .number))
-made c = adds-page (c .before .before .front .ensures) (c .put-refused .ensures) (refusal-room (c .before .before .before .before .args .number))
+made c =
+    let n = c .before .before .before .before .args .number in
+    adds-page (c .before .before .front .ensures) (adds-is (refusedLine n) (c .put-refused .ensures)) (omega (arith, refusal-most n))
 
 front-requires : tie.Need-front-requires
 front-requires c κs = search needs

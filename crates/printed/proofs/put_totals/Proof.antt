@@ -1,6 +1,7 @@
 -- `printed::put_totals` meets its contract: each total put behind the one before. Assumes nothing.
 use mathlib.Core.Path.{sym, ap}
-use Rattle.printed.proofs.AddingLaws.{adds-put, adds-then, adds-as}
+use Rattle.basics.specs.Lines.{one}
+use Rattle.printed.proofs.AddingLaws.{adds-put, adds-then, adds-is, adds-as}
 use Rattle.printed.specs.Lines.{named, totalsLine}
 use borrow.Author.Needs.{needs}
 use Rattle.printed.proofs.put_totals.Statement.{statement}
@@ -75,10 +76,17 @@ returns c =
     let starts = acks .before .before .before .before .before .before in
     let span = starts .before .before .before .before .before .before in
     let records = span .before .before .before .before .before in
-    let two = adds-then (records .put-named .ensures) (span .put-named2 .ensures) in
-    let four = adds-then (adds-then two (starts .put-named3 .ensures)) (acks .put-named4 .ensures) in
+    let a = records .before .before .before .before .before .args in
+    let t = a .totals in
+    let four =
+    adds-then
+    (adds-then
+    (adds-then (adds-is (named "records " (t .records)) (records .put-named .ensures)) (adds-is (named " span " (t .span)) (span .put-named2 .ensures)))
+    (adds-is (named " starts " (t .starts)) (starts .put-named3 .ensures)))
+    (adds-is (named " acks " (t .acks)) (acks .put-named4 .ensures)) in
+    let five = adds-then four (adds-is (named " aborted " (t .aborted)) (aborted .put-named5 .ensures)) in
     let bit = adds-as (ap (named " open ") (sym (flag .before .one-if .ensures .0))) (flag .put-named6 .ensures) in
-    adds-then (adds-then (adds-then four (aborted .put-named5 .ensures)) bit) (adds-put (c .before .before .put-word .ensures))
+    adds-then (adds-then five (adds-is (named " open " (one (a .opened))) bit)) (adds-put (c .before .before .put-word .ensures))
 
 same-length : tie.Need-same-length
 same-length c = returns c .kept
