@@ -11,8 +11,8 @@ use Rattle.rules.specs.declared.Broken.{Broken}
 use Rattle.rules.specs.declared.Tally.{Tally}
 use Rattle.rules.specs.declared.Verdict.{Verdict}
 use Rattle.rules.specs.declared.Verdict.the-variants.{Conforming, Breach, OutOfBounds, TooMany, Torn}
-use Rattle.stream.specs.declared.Ending.{Ending}
-use Rattle.stream.specs.Input.{endingOf}
+use Rattle.feeding.specs.declared.Ending.{Ending}
+use Rattle.feeding.specs.Input.{endingOf}
 use Rattle.text.specs.Decimal.{decimalOf}
 use Rattle.text.specs.Words.{word}
 

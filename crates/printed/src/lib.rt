@@ -7,10 +7,10 @@ ghost use Rattle.text.specs.Decimal.{decimalOf};
 ghost use Rattle.text.specs.Places.{front, movedBy, putAt};
 ghost use Rattle.printed.specs.Adding.{Adds};
 ghost use Rattle.printed.specs.Lines.{totalsLine, refusedLine, breachLine, verdictLine, linesOf};
+use feeding::Ending;
 use rules::Broken;
 use rules::Tally;
 use rules::Verdict;
-use stream::Ending;
 use text::Place;
 
 // Enough for the two lines, however many digits the numbers have.

@@ -1,6 +1,6 @@
 -- The text that the program makes is that of the whole input. Assumes nothing.
 use Prim.Native.Nat.{ℕ, _≤_, min}
-use mathlib.Core.Bool.{Bool, true, false, cond, _&&_}
+use mathlib.Core.Bool.{true, false}
 use mathlib.Core.List.{List, [], _∷_, _++_, append-nil}
 use mathlib.Core.Path.{_≡_, refl, sym, ap, subst, _∙_}
 use native.Mathlib.Omega.{arith}
@@ -10,22 +10,20 @@ use lib.Dec.{leb}
 use borrow.Author.Tests.{leb-true, le-leb}
 use Rattle.basics.specs.Numbers.{lawfulLimit}
 use Rattle.basics.proofs.Bools.{by-test, cond-true, cond-false, and-both, both-and, not-true}
-use Rattle.rules.specs.State.{freshJudge, zeroTally}
-use Rattle.stream.specs.declared.Stream.{Stream}
-use Rattle.stream.specs.declared.Fed.{Fed}
-use Rattle.stream.specs.declared.Ending.{Ending}
-use Rattle.stream.specs.Input.{endingOf}
-use Rattle.stream.specs.State.{goes, freshStream, noStream, freshOf, finishOf}
-use Rattle.stream.specs.Pieces.{fedAll}
-use Rattle.stream.proofs.Feeding.{feeding}
+use Rattle.feeding.specs.declared.Stream.{Stream}
+use Rattle.feeding.specs.declared.Fed.{Fed}
+use Rattle.feeding.specs.declared.Ending.{Ending}
+use Rattle.feeding.specs.Input.{endingOf}
+use Rattle.feeding.specs.State.{goes, freshStream, freshOf, finishOf}
+use Rattle.feeding.proofs.Feeding.{feeding}
 use Rattle.text.specs.declared.Place.{Place}
 use Rattle.text.specs.Places.{front, movedBy, putAt}
 use Rattle.text.proofs.PlaceLaws.{put-front, put-length, moved-front}
-use Rattle.printed.specs.Lines.{refusedLine, linesOf, pageOf}
+use Rattle.printed.specs.Lines.{refusedLine, linesOf}
 use Rattle.printed.proofs.LineLaws.{lines-most, refusal-most}
 use Rattle.spurjudge.specs.declared.Input.{Input}
 use Rattle.spurjudge.specs.declared.Said.{Said}
-use Rattle.spurjudge.specs.declared.Said.the-variants.{Page, CantRead}
+use Rattle.spurjudge.specs.declared.Said.the-variants.{Page}
 use Rattle.spurjudge.specs.Reads.{ReadOut}
 use Rattle.spurjudge.specs.Pages.{Behind, nothing, anything, Prints, unlawful, judged, unread}
 use Rattle.spurjudge.proofs.Reading.{stateOf, fed-one, heard-holds}

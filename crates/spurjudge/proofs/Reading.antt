@@ -1,24 +1,23 @@
 -- Laws of the program's reads. Assumes nothing.
-use Prim.Native.Nat.{ℕ, _+_, _*_, _≤_, _<_}
-use mathlib.Core.Bool.{Bool, true, false, cond, not, false≢true}
+use Prim.Native.Nat.{ℕ, _+_, _≤_}
+use mathlib.Core.Bool.{Bool, true, false, not, false≢true}
 use mathlib.Core.List.{List, [], _∷_, _++_, append-nil}
 use mathlib.Core.Path.{_≡_, refl, sym, ap, subst, _∙_}
 use native.Mathlib.Omega.{arith}
 use lib.IntN.{ℤ, pos, negsuc}
-use lib.Signed.{ltZ}
 use lib.ListN.{length, take, length-append, length-take}
 use lib.Dec.{eqb}
 use borrow.Author.Tests.{eq-eqb, ne-eqb, eqb-true, eqb-false}
 use Rattle.basics.proofs.Bools.{by-test, cond-true, cond-false, not-true}
 use Rattle.io.specs.Counts.{clamped}
-use Rattle.stream.specs.declared.Stream.{Stream}
-use Rattle.stream.specs.declared.Fed.{Fed}
+use Rattle.feeding.specs.declared.Stream.{Stream}
+use Rattle.feeding.specs.declared.Fed.{Fed}
 use Rattle.basics.specs.Numbers.{lawfulLimit}
 use Rattle.rules.specs.State.{freshJudge, zeroTally}
-use Rattle.stream.specs.State.{goes, goneOn, freshStream, feedOf, fedOf}
-use Rattle.stream.specs.Pieces.{fedAll}
-use Rattle.stream.proofs.GoOn.{feed-more, going-within}
-use Rattle.stream.proofs.Feeding.{fed-all, feeding}
+use Rattle.feeding.specs.State.{goes, goneOn, freshStream, feedOf, fedOf}
+use Rattle.feeding.specs.Pieces.{fedAll}
+use Rattle.feeding.proofs.GoOn.{feed-more, going-within}
+use Rattle.feeding.proofs.Feeding.{fed-all, feeding}
 use Rattle.spurjudge.specs.declared.Input.{Input}
 use Rattle.spurjudge.specs.Reads.{Read, fails, brought, endedBy, fedBy, afterRead, started, Heard, start, later, ReadOut}
 

@@ -1,12 +1,12 @@
 -- What the judging program prints, from the bytes that it read.
 use Prim.Native.Nat.{ℕ, _≤_}
-use mathlib.Core.Bool.{Bool, true, false, cond}
+use mathlib.Core.Bool.{true, false, cond}
 use mathlib.Core.List.{List, [], _++_}
 use mathlib.Core.Path.{_≡_}
 use lib.ListN.{length, take}
 use lib.Dec.{ltb}
 use Rattle.basics.specs.Numbers.{lawfulLimit}
-use Rattle.stream.specs.State.{goes}
+use Rattle.feeding.specs.State.{goes}
 use Rattle.text.specs.declared.Number.{Number}
 use Rattle.text.specs.declared.Number.the-variants.{Is, NotANumber}
 use Rattle.text.specs.Numbers.{numberOf}

@@ -1,19 +1,15 @@
 -- What the judging program makes of its reads. No contract can say which bytes a call of the system reads: a read is taken as what it answers and the
 -- buffer that it leaves, and all that follows from these is proved.
-use Prim.Native.Nat.{ℕ, _+_, _≤_}
+use Prim.Native.Nat.{ℕ, _+_}
 use mathlib.Core.Bool.{Bool, true, false, cond}
 use mathlib.Core.List.{List, [], _++_}
 use mathlib.Core.Path.{_≡_}
-use mathlib.Core.Logic.{_⊎_}
 use lib.IntN.{ℤ, pos}
 use lib.Signed.{ltZ}
 use lib.ListN.{length, take}
 use lib.Dec.{eqb}
 use Rattle.io.specs.Counts.{clamped}
-use Rattle.rules.specs.Exact.{joined}
-use Rattle.stream.specs.declared.Stream.{Stream}
-use Rattle.stream.specs.declared.Ending.{Ending}
-use Rattle.stream.specs.State.{goes, freshStream, fedOf}
+use Rattle.feeding.specs.State.{goes, freshStream, fedOf}
 use Rattle.spurjudge.specs.declared.Input.{Input}
 
 -- one call of `read`: its answer, negative where it failed, and the buffer after it

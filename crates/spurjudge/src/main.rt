@@ -7,13 +7,13 @@ ghost use Prim.Native.Nat.{ℕ, min};
 ghost use lib.IntN.{ℤ};
 ghost use lib.ListN.{length};
 ghost use Rattle.basics.specs.Numbers.{lawfulLimit};
-ghost use Rattle.stream.specs.State.{freshStream};
+ghost use Rattle.feeding.specs.State.{freshStream};
 ghost use Rattle.spurjudge.specs.Reads.{afterRead, ReadOut};
 ghost use Rattle.spurjudge.specs.Pages.{limitGiven, Prints};
+use feeding::Stream;
 use libc::STDERR_FILENO;
 use libc::STDIN_FILENO;
 use libc::STDOUT_FILENO;
-use stream::Stream;
 use text::Number;
 
 // The input so far: whether to read on, and whether the last read failed.
@@ -38,7 +38,7 @@ fn take_in(got: isize, buffer: &[u8], input: Input) -> Input
             failed: got < 0,
         };
     }
-    let fed = stream.feed(&buffer[..n]);
+    let fed = stream::feed(stream, &buffer[..n]);
     let next = fed.stream;
     let stop = next.stop;
     Input {
@@ -101,7 +101,7 @@ fn told(input: Input, text: &mut [u8]) -> Said
         return Said::CantRead;
     }
     let stream = input.stream;
-    let ending = stream.finish();
+    let ending = stream::finish(stream);
     let lines = printed::put_ending(text, ending);
     Said::Page(lines.at)
 }
@@ -111,7 +111,7 @@ fn judge_input(limit: u64, buffer: &mut [u8], text: &mut [u8]) -> Said
     requires { ⌜ length (now text) ≡ 256 ⌝ }
     ensures { λ r. ⌜ Prints limit (now (text .exit)) r ⌝ }
 {
-    let begun = Stream::fresh(narrowed(limit));
+    let begun = stream::fresh(narrowed(limit));
     if begun.number != 0 {
         let line = printed::put_refusal(text, begun.number);
         return Said::Page(line.at);

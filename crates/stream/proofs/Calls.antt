@@ -2,33 +2,32 @@
 use Prim.Native.Nat.{ℕ, _+_, _-_, _*_, _%_, _≤_, _<_, min}
 use mathlib.Core.Bool.{Bool, true, false, cond, _&&_}
 use mathlib.Core.List.{List, [], _++_, append-assoc}
-use mathlib.Core.Path.{_≡_, refl, sym, ap, subst, _∙_}
+use mathlib.Core.Path.{_≡_, sym, ap, subst, _∙_}
 use native.Mathlib.Omega.{arith}
 use lib.ListN.{length, take, drop, replicate, length-append, length-drop, take-append-drop}
 use lib.Seq.{paste, take-paste, length-take-le, take-length, take-all}
-use lib.Dec.{ltb, leb}
-use borrow.Author.Tests.{ltb-true, ltb-false, leb-true, lt-ltb, le-leb}
+use lib.Dec.{ltb}
+use borrow.Author.Tests.{ltb-true, ltb-false}
 use Rattle.basics.specs.Answers.{Answer}
 use Rattle.basics.specs.Numbers.{lawfulLimit}
-use Rattle.basics.proofs.Bools.{by-test, cond-true, cond-false, and-both, both-and}
+use Rattle.basics.proofs.Bools.{by-test, cond-true, cond-false, and-both}
 use Rattle.rules.specs.declared.Judge.{Judge}
 use Rattle.rules.specs.declared.Tally.{Tally}
 use Rattle.rules.specs.declared.Progress.{Progress}
 use Rattle.rules.specs.declared.Outcome.{Outcome}
 use Rattle.rules.specs.declared.Fresh.{Fresh}
 use Rattle.rules.specs.declared.Fresh.the-variants.{Ready, BadLimit}
-use Rattle.rules.specs.Bounds.{judgeBounds, tallyBounds, SoundJudge, SoundTally}
+use Rattle.rules.specs.Bounds.{SoundJudge, SoundTally}
 use Rattle.rules.specs.Verdict.{mostRecords, verdictOf, outcomeIn, outcomeOf, noJudge, freshAnswer, freshOf as judgeFresh}
 use Rattle.rules.specs.State.{zeroTally}
-use Rattle.rules.proofs.Laws.{judge-sound, sound-judge, tally-sound, sound-tally}
 use Rattle.judge.proofs.Runs.{rest-is}
-use Rattle.stream.specs.declared.Stop.{Stop}
-use Rattle.stream.specs.declared.Stop.the-variants.{Going}
-use Rattle.stream.specs.declared.Fed.{Fed}
-use Rattle.stream.specs.declared.Stream.{Stream}
-use Rattle.stream.specs.Input.{wholeIn}
-use Rattle.stream.specs.State.{goes, padded, streamBounds, takenIn, stopOf, keptOf, stateWith, goneOn, freshStream, noStream, freshOf, feedOf}
-use Rattle.stream.proofs.GoOn.{judgedOf, outcome-taken, padded-is, kept-is, behind-in, feed-ended, feed-more, feed-whole, gone-sound}
+use Rattle.feeding.specs.declared.Stop.{Stop}
+use Rattle.feeding.specs.declared.Stop.the-variants.{Going}
+use Rattle.feeding.specs.declared.Fed.{Fed}
+use Rattle.feeding.specs.declared.Stream.{Stream}
+use Rattle.feeding.specs.Input.{wholeIn}
+use Rattle.feeding.specs.State.{goes, padded, takenIn, stopOf, keptOf, stateWith, goneOn, freshStream, noStream, freshOf, feedOf}
+use Rattle.feeding.proofs.GoOn.{judgedOf, outcome-taken, padded-is, kept-is, behind-in, feed-ended, feed-more, feed-whole, gone-sound}
 
 -- the part of a list from a place on
 abbrev pub part : ℕ → List ℕ → List ℕ
@@ -132,21 +131,6 @@ pub bounds-kept : (j : Judge) (t : Tally) (x : List ℕ) (s : Stream) → SoundJ
 bounds-kept j t x s hj ht room e = subst (λ (y : Stream). SoundJudge (y .judge) × (SoundTally (y .tally) × (y .tally .records ≤ mostRecords))) (sym e) (gone-sound j t x hj ht room)
 
 -- ---- the calls
--- the bounds, as facts
-pub bounds-are : (s : Stream) → streamBounds s ≡ true → SoundJudge (s .judge) × (SoundTally (s .tally) × ((s .tally .records ≤ mostRecords) × (s .held < 16)))
-unfolding streamBounds
-bounds-are s e =
-    let a = and-both _ (ltb (s .held) 16) e in
-    let b = and-both _ (leb (s .tally .records) mostRecords) (a .0) in
-    let c = and-both (judgeBounds (s .judge)) (tallyBounds (s .tally)) (b .0) in
-    (judge-sound (s .judge) (c .0), (tally-sound (s .tally) (c .1), (leb-true (s .tally .records) mostRecords (b .1), ltb-true (s .held) 16 (a .1))))
-
--- and back
-pub are-bounds : (s : Stream) → SoundJudge (s .judge) → SoundTally (s .tally) → s .tally .records ≤ mostRecords → s .held < 16 → streamBounds s ≡ true
-unfolding streamBounds
-are-bounds s hj ht room few =
-    both-and _ _ (both-and _ _ (both-and _ _ (sound-judge (s .judge) hj) (sound-tally (s .tally) ht)) (le-leb (s .tally .records) mostRecords room)) (lt-ltb (s .held) 16 few)
-
 pub took-in : (s : Stream) (piece : List ℕ) (r : Stream) → goes (s .stop) ≡ true → r ≡ goneOn (s .judge) (s .tally) (take (s .held) (s .torn) ++ piece) → r ≡ feedOf s piece
 unfolding feedOf
 took-in s piece r g e = e ∙ sym (cond-true _ _ g)

@@ -11,46 +11,20 @@ ghost use Rattle.rules.specs.Exact.{joined};
 ghost use Rattle.rules.specs.State.{zeroTally};
 ghost use Rattle.rules.specs.Verdict.{noJudge};
 ghost use Rattle.basics.specs.Numbers.{lawfulLimit};
-ghost use Rattle.stream.specs.declared.Stop.the-variants.{Going};
-ghost use Rattle.stream.specs.Input.{Answers};
-ghost use Rattle.stream.specs.State.{goes, streamBounds, stopOf, stateWith, goneOn, freshStream, freshOf, feedOf, fedOf, lastVerdict, finishOf};
-ghost use Rattle.stream.specs.Pieces.{fedAll};
-use rules::Broken;
+ghost use Rattle.feeding.specs.declared.Stop.the-variants.{Going};
+ghost use Rattle.feeding.specs.Input.{Answers};
+ghost use Rattle.feeding.specs.State.{goes, streamBounds, stopOf, stateWith, goneOn, freshStream, freshOf, feedOf, fedOf, lastVerdict, finishOf};
+ghost use Rattle.feeding.specs.Pieces.{fedAll};
+use feeding::Ending;
+use feeding::Fed;
+use feeding::Stop;
+use feeding::Stream;
 use rules::Fresh;
 use rules::Judge;
 use rules::Tally;
 use rules::Transfer;
 use rules::Verdict;
 use rules::Wave;
-
-// What has ended the judging before the input's end, if anything has: a breach, or a whole record past 2^30.
-pub enum Stop {
-    Going,
-    AtBreach(Broken),
-    PastMost,
-}
-
-// The input so far: what its whole records came to, and the first `held` bytes of `torn`, which are those of a torn record.
-pub struct Stream {
-    pub judge: Judge,
-    pub tally: Tally,
-    pub stop: Stop,
-    pub torn: [u8; 16],
-    pub held: usize,
-}
-
-// A call's number, 0 where it is accepted, and the state that it leaves.
-pub struct Fed {
-    pub number: u8,
-    pub stream: Stream,
-}
-
-// What an input comes to: the verdict, the totals, and whether a transfer is open.
-pub struct Ending {
-    pub verdict: Verdict,
-    pub tally: Tally,
-    pub opened: bool,
-}
 
 // Whether nothing has ended the judging yet, so that more of the input counts.
 pub fn is_going(stop: Stop) -> bool
@@ -248,57 +222,55 @@ fn last_verdict(stop: Stop, held: usize) -> Verdict
     }
 }
 
-impl Stream {
-    // An input from the start, for a hold limit of 1 to 16, or refusal 3.
-    pub fn fresh(limit: u8) -> Fed
-        ensures { λ r. ⌜ r ≡ freshOf limit ⌝ }
-    {
-        match Judge::fresh(limit) {
-            Fresh::Ready(judge) => begun(0, judge),
-            Fresh::BadLimit => begun(3, no_judge()),
-        }
+// An input from the start, for a hold limit of 1 to 16, or refusal 3.
+pub fn fresh(limit: u8) -> Fed
+    ensures { λ r. ⌜ r ≡ freshOf limit ⌝ }
+{
+    match Judge::fresh(limit) {
+        Fresh::Ready(judge) => begun(0, judge),
+        Fresh::BadLimit => begun(3, no_judge()),
     }
+}
 
-    // Goes on with the input's next piece, of any length, or refuses a state out of bounds by 5 and hands it back.
-    pub fn feed(self, piece: &[u8]) -> Fed
-        ensures { λ r. ⌜ r ≡ fedOf self (now (piece .entry)) ⌝ }
-    {
-        if in_bounds(self) {
-            let next = take_in(self, piece);
-            return Fed {
-                number: 0,
-                stream: next,
-            };
-        }
-        Fed {
-            number: 5,
-            stream: self,
-        }
+// Goes on with the input's next piece, of any length, or refuses a state out of bounds by 5 and hands it back.
+pub fn feed(stream: Stream, piece: &[u8]) -> Fed
+    ensures { λ r. ⌜ r ≡ fedOf stream (now (piece .entry)) ⌝ }
+{
+    if in_bounds(stream) {
+        let next = take_in(stream, piece);
+        return Fed {
+            number: 0,
+            stream: next,
+        };
     }
+    Fed {
+        number: 5,
+        stream: stream,
+    }
+}
 
-    // What the input comes to, if it ends here. Of a caller who began with `fresh` and fed pieces, it is what the recording of all their bytes has.
-    pub fn finish(self) -> Ending
-        ensures { λ r. ⌜ (r ≡ finishOf self) × ((limit : ℕ) (pieces : List (List ℕ)) → lawfulLimit limit ≡ true → self ≡ fedAll (freshStream limit) pieces → Answers limit (joined pieces) r) ⌝ }
-    {
-        if in_bounds(self) {
-            let state = self.judge;
-            let totals = self.tally;
-            let stop = self.stop;
-            let held = self.held;
-            let transfer = state.transfer;
-            let verdict = last_verdict(stop, held);
-            let opened = rules::is_open(transfer);
-            return Ending {
-                verdict: verdict,
-                tally: totals,
-                opened: opened,
-            };
-        }
-        let nothing = Tally::zero();
-        Ending {
-            verdict: Verdict::OutOfBounds,
-            tally: nothing,
-            opened: false,
-        }
+// What the input comes to, if it ends here. Of a caller who began with `fresh` and fed pieces, it is what the recording of all their bytes has.
+pub fn finish(stream: Stream) -> Ending
+    ensures { λ r. ⌜ (r ≡ finishOf stream) × ((limit : ℕ) (pieces : List (List ℕ)) → lawfulLimit limit ≡ true → stream ≡ fedAll (freshStream limit) pieces → Answers limit (joined pieces) r) ⌝ }
+{
+    if in_bounds(stream) {
+        let state = stream.judge;
+        let totals = stream.tally;
+        let stop = stream.stop;
+        let held = stream.held;
+        let transfer = state.transfer;
+        let verdict = last_verdict(stop, held);
+        let opened = rules::is_open(transfer);
+        return Ending {
+            verdict: verdict,
+            tally: totals,
+            opened: opened,
+        };
+    }
+    let nothing = Tally::zero();
+    Ending {
+        verdict: Verdict::OutOfBounds,
+        tally: nothing,
+        opened: false,
     }
 }

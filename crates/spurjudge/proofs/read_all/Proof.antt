@@ -4,7 +4,7 @@ use mathlib.Core.Path.{_≡_, refl, _∙_}
 use native.Mathlib.Omega.{arith}
 use lib.ListN.{length}
 use borrow.Author.Needs.{needs}
-use Rattle.stream.specs.State.{freshStream}
+use Rattle.feeding.specs.State.{freshStream}
 use Rattle.spurjudge.proofs.Reading.{not-off, not-on, Turning, turns-from, turns-on, turns-end, turns-stop}
 use Rattle.spurjudge.proofs.read_all.Statement.{statement}
 use Rattle.spurjudge.proofs.read_all.Tie as tie

@@ -1,5 +1,5 @@
 -- `stream::begun` meets its contract. Assumes nothing.
-use Rattle.stream.specs.State.{padded}
+use Rattle.feeding.specs.State.{padded}
 use borrow.Author.Needs.{needs}
 use Rattle.stream.proofs.begun.Statement.{statement}
 use Rattle.stream.proofs.begun.Tie as tie

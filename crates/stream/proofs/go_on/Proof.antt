@@ -2,7 +2,7 @@
 use mathlib.Core.Path.{sym}
 use native.Mathlib.Omega.{arith}
 use lib.Seq.{length-take-le}
-use Rattle.stream.proofs.GoOn.{behind-in}
+use Rattle.feeding.proofs.GoOn.{behind-in}
 use Rattle.stream.proofs.Calls.{part-few, went-on}
 use borrow.Author.Needs.{needs}
 use Rattle.stream.proofs.go_on.Statement.{statement}

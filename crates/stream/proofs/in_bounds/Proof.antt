@@ -1,5 +1,5 @@
 -- `stream::in_bounds` meets its contract. Assumes nothing.
-use Rattle.stream.specs.State.{streamBounds}
+use Rattle.feeding.specs.State.{streamBounds}
 use borrow.Author.Needs.{needs}
 use Rattle.stream.proofs.in_bounds.Statement.{statement}
 use Rattle.stream.proofs.in_bounds.Tie as tie

@@ -1,7 +1,7 @@
 -- `stream::is_going` meets its contract; with a file of its own, so that a wrong build is refused here. Assumes nothing.
 use borrow.Author.Needs.{needs}
 use mathlib.Core.Path.{ap, sym}
-use Rattle.stream.specs.State.{goes}
+use Rattle.feeding.specs.State.{goes}
 use Rattle.stream.proofs.is_going.Statement.{statement}
 use Rattle.stream.proofs.is_going.Tie as tie
 

@@ -1,7 +1,8 @@
 -- `stream::take_in` meets its contract. Assumes nothing.
 use mathlib.Core.Path.{sym, _∙_}
-use Rattle.stream.proofs.GoOn.{feed-ended}
-use Rattle.stream.proofs.Calls.{bounds-are, took-whole, took-in}
+use Rattle.feeding.proofs.GoOn.{feed-ended}
+use Rattle.feeding.proofs.Bounds.{bounds-are}
+use Rattle.stream.proofs.Calls.{took-whole, took-in}
 use borrow.Author.Needs.{needs}
 use Rattle.stream.proofs.take_in.Statement.{statement}
 use Rattle.stream.proofs.take_in.Tie as tie

@@ -1,15 +1,14 @@
 -- An input in pieces of any length, empty ones and single bytes too: what `finish` says is what the whole input comes to.
 use Prim.Native.Nat.{ℕ}
-use mathlib.Core.Bool.{true, false}
+use mathlib.Core.Bool.{false}
 use mathlib.Core.List.{List, [], _∷_, _++_}
 use mathlib.Core.Path.{_≡_}
 use Rattle.rules.specs.Exact.{joined}
 use Rattle.rules.specs.Verdict.{mostRecords}
-use Rattle.stream.specs.declared.Fed.{Fed}
-use Rattle.stream.specs.declared.Stream.{Stream}
-use Rattle.stream.specs.declared.Ending.{Ending}
-use Rattle.stream.specs.Input.{Answers, endingOf}
-use Rattle.stream.specs.State.{goes, freshOf, freshStream, feedOf, fedOf, finishOf}
+use Rattle.feeding.specs.declared.Stream.{Stream}
+use Rattle.feeding.specs.declared.Ending.{Ending}
+use Rattle.feeding.specs.Input.{Answers, endingOf}
+use Rattle.feeding.specs.State.{goes, freshOf, freshStream, feedOf, fedOf, finishOf}
 
 -- the state after one piece after another
 abbrev pub fedAll : Stream → List (List ℕ) → Stream

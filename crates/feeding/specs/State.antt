@@ -14,12 +14,12 @@ use Rattle.rules.specs.Bounds.{judgeBounds, tallyBounds}
 use Rattle.rules.specs.Run.{from, runOf, recordsIn}
 use Rattle.rules.specs.State.{isOpen, freshJudge, zeroTally}
 use Rattle.rules.specs.Verdict.{mostRecords, verdictOf, noJudge}
-use Rattle.stream.specs.declared.Stop.{Stop}
-use Rattle.stream.specs.declared.Stop.the-variants.{Going, AtBreach, PastMost}
-use Rattle.stream.specs.declared.Stream.{Stream}
-use Rattle.stream.specs.declared.Fed.{Fed}
-use Rattle.stream.specs.declared.Ending.{Ending}
-use Rattle.stream.specs.Input.{wholeIn}
+use Rattle.feeding.specs.declared.Stop.{Stop}
+use Rattle.feeding.specs.declared.Stop.the-variants.{Going, AtBreach, PastMost}
+use Rattle.feeding.specs.declared.Stream.{Stream}
+use Rattle.feeding.specs.declared.Fed.{Fed}
+use Rattle.feeding.specs.declared.Ending.{Ending}
+use Rattle.feeding.specs.Input.{wholeIn}
 
 -- ---- the state
 -- nothing has ended the judging yet

@@ -1,9 +1,9 @@
--- `stream::Stream::feed` meets its contract. Assumes nothing.
+-- `stream::feed` meets its contract. Assumes nothing.
 use mathlib.Core.Path.{sym, _∙_}
-use Rattle.stream.specs.State.{fedOf}
+use Rattle.feeding.specs.State.{fedOf}
 use borrow.Author.Needs.{needs}
-use Rattle.stream.proofs.Stream.feed.Statement.{statement}
-use Rattle.stream.proofs.Stream.feed.Tie as tie
+use Rattle.stream.proofs.feed.Statement.{statement}
+use Rattle.stream.proofs.feed.Tie as tie
 
 in-bounds-requires : tie.Need-in-bounds-requires
 in-bounds-requires c κs = search needs

@@ -1,43 +1,39 @@
 -- Whatever the pieces are, `finish` says what the whole input comes to, and that is right of the recording itself. Assumes nothing.
-use Prim.Native.Nat.{ℕ, _+_, _-_, _*_, _/_, _%_, _≤_, _<_}
-use mathlib.Core.Bool.{Bool, true, false, cond}
+use Prim.Native.Nat.{ℕ, _+_, _-_, _*_, _%_, _≤_}
+use mathlib.Core.Bool.{Bool, true, false}
 use mathlib.Core.List.{List, [], _∷_, _++_, append-assoc, append-nil}
 use mathlib.Core.Path.{_≡_, refl, sym, ap, subst, _∙_}
 use mathlib.Core.Logic.{_↔_}
 use native.Mathlib.Omega.{arith}
 use native.Mathlib.Nat.{zero-add}
-use lib.ListN.{length, take, drop, length-drop}
+use lib.ListN.{length, drop, length-drop}
 use lib.Dec.{eqb, ltb, leb}
 use borrow.Author.Tests.{eqb-true, eqb-false, leb-true}
 use Rattle.basics.specs.Numbers.{lawfulLimit}
-use Rattle.basics.proofs.Bools.{by-test, choice, cond-true, cond-false, and-both, not-false}
+use Rattle.basics.proofs.Bools.{by-test, choice, cond-true, cond-false, and-both}
 use Rattle.rules.specs.declared.Judge.{Judge}
 use Rattle.rules.specs.declared.Tally.{Tally}
 use Rattle.rules.specs.declared.Progress.{Progress}
-use Rattle.rules.specs.declared.Outcome.{Outcome}
 use Rattle.rules.specs.declared.Verdict.{Verdict}
 use Rattle.rules.specs.declared.Verdict.the-variants.{OutOfBounds}
-use Rattle.rules.specs.Bounds.{SoundJudge, SoundTally}
 use Rattle.rules.specs.Recording.{recordingIn}
 use Rattle.rules.specs.Run.{from, runOf, recordsIn}
 use Rattle.rules.specs.State.{isOpen, freshJudge, zeroTally}
 use Rattle.rules.specs.Totals.{Totals}
-use Rattle.rules.specs.Verdict.{mostRecords, verdictOf, outcomeIn, outcomeOf}
-use Rattle.rules.specs.Exact.{counted, OpenAt, Exact, joined}
+use Rattle.rules.specs.Verdict.{mostRecords, verdictOf, outcomeIn}
+use Rattle.rules.specs.Exact.{counted, OpenAt, joined}
 use Rattle.rules.proofs.Laws.{fresh-sound}
 use Rattle.rules.proofs.Reach.{reached}
 use Rattle.rules.proofs.Exactly.{reached-exact, rightly-only, totals-only}
 use Rattle.rules.proofs.Told.{zero-sound}
-use Rattle.stream.specs.declared.Stop.{Stop}
-use Rattle.stream.specs.declared.Stop.the-variants.{Going}
-use Rattle.stream.specs.declared.Stream.{Stream}
-use Rattle.stream.specs.declared.Fed.{Fed}
-use Rattle.stream.specs.declared.Ending.{Ending}
-use Rattle.stream.specs.Input.{wholeIn, judgedIn, endOf, inputVerdict, Answers, endingWith, endingOf}
-use Rattle.stream.specs.State.{goes, padded, tornOf, streamBounds, takenIn, stopOf, keptOf, stateWith, stateAfter, goneOn, freshStream, freshOf, feedOf, fedOf, lastVerdict, finishOf}
-use Rattle.stream.specs.Pieces.{fedAll, Feeding}
-use Rattle.stream.proofs.GoOn.{judgedOf, outcome-taken, breach-verdict, conforming-verdict, after-breach, after-past, after-going, feed-ended, feed-more, gone-sound, gone-held}
-use Rattle.stream.proofs.Calls.{are-bounds}
+use Rattle.feeding.specs.declared.Stop.the-variants.{Going}
+use Rattle.feeding.specs.declared.Stream.{Stream}
+use Rattle.feeding.specs.declared.Ending.{Ending}
+use Rattle.feeding.specs.Input.{wholeIn, judgedIn, endOf, inputVerdict, Answers, endingWith, endingOf}
+use Rattle.feeding.specs.State.{goes, tornOf, streamBounds, takenIn, keptOf, stateAfter, goneOn, freshStream, freshOf, feedOf, fedOf, lastVerdict, finishOf}
+use Rattle.feeding.specs.Pieces.{fedAll, Feeding}
+use Rattle.feeding.proofs.GoOn.{judgedOf, outcome-taken, breach-verdict, conforming-verdict, after-breach, after-past, after-going, feed-ended, feed-more, gone-sound, gone-held}
+use Rattle.feeding.proofs.Bounds.{are-bounds}
 
 -- ---- all the pieces
 -- pieces after some bytes are as all the bytes at once

@@ -1,14 +1,14 @@
 -- Laws of going on: what is judged of the bytes, what is kept of them, and that a piece after a piece is as both at once. Assumes nothing.
-use Prim.Native.Nat.{ℕ, zero, suc, _+_, _-_, _*_, _/_, _%_, _≤_, _<_, min}
+use Prim.Native.Nat.{ℕ, zero, suc, _+_, _-_, _*_, _/_, _%_, _≤_, _<_}
 use mathlib.Core.Bool.{Bool, true, false, cond, false≢true}
-use mathlib.Core.List.{List, [], _∷_, _++_, append-assoc, append-nil}
-use mathlib.Core.Path.{_≡_, refl, sym, ap, subst, _∙_}
+use mathlib.Core.List.{List, [], _++_, append-assoc}
+use mathlib.Core.Path.{_≡_, refl, sym, ap, _∙_}
 use native.Mathlib.Omega.{arith}
 use native.Mathlib.Nat.{zero-add}
 use lib.ListN.{length, take, drop, replicate, length-append, length-drop, take-append-drop}
 use lib.Seq.{paste, length-take-le, drop-length, take-append-seam, drop-append-le, drop-drop, take-length}
 use lib.Dec.{eqb, ltb}
-use borrow.Author.Tests.{eqb-true, eqb-false, ltb-true, ltb-false, eq-eqb, ne-eqb, lt-ltb, le-ltb}
+use borrow.Author.Tests.{eqb-true, eqb-false, ltb-true, ltb-false, eq-eqb, ne-eqb, lt-ltb}
 use Rattle.basics.proofs.Bools.{choice, by-test, cond-true, cond-false}
 use Rattle.rules.specs.declared.Judge.{Judge}
 use Rattle.rules.specs.declared.Tally.{Tally}
@@ -19,14 +19,14 @@ use Rattle.rules.specs.Bounds.{SoundJudge, SoundTally}
 use Rattle.rules.specs.Run.{Taken, takenIn as recordAt, ruleOf, from, nextOf, runOf, recordsIn}
 use Rattle.rules.specs.State.{diffOf}
 use Rattle.rules.specs.Verdict.{mostRecords, verdictOf, outcomeIn, outcomeOf}
-use Rattle.rules.proofs.Laws.{SoundProgress, step-good, step-bad, next-open, run-append, run-stopped, run-sound, records-append, refusal-none, outcome-judged}
+use Rattle.rules.proofs.Laws.{step-good, step-bad, next-open, run-append, run-stopped, run-sound, records-append, refusal-none, outcome-judged}
 use Rattle.rules.proofs.Parts.{run-open}
 use Rattle.rules.proofs.Told.{records-take}
-use Rattle.stream.specs.declared.Stop.{Stop}
-use Rattle.stream.specs.declared.Stop.the-variants.{Going, AtBreach, PastMost}
-use Rattle.stream.specs.declared.Stream.{Stream}
-use Rattle.stream.specs.Input.{wholeIn}
-use Rattle.stream.specs.State.{goes, padded, tornOf, takenIn, stopOf, keptOf, stateWith, stateAfter, goneOn, feedOf}
+use Rattle.feeding.specs.declared.Stop.{Stop}
+use Rattle.feeding.specs.declared.Stop.the-variants.{Going, AtBreach, PastMost}
+use Rattle.feeding.specs.declared.Stream.{Stream}
+use Rattle.feeding.specs.Input.{wholeIn}
+use Rattle.feeding.specs.State.{goes, padded, takenIn, stopOf, keptOf, stateWith, stateAfter, goneOn, feedOf}
 
 -- ---- what is judged
 -- the records that are judged of these bytes

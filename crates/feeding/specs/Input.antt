@@ -2,7 +2,7 @@
 -- transfer is open (0 or 1). The second may be `breach rule J record I` (I from 0, totals of the records before it) or, with no breach and a torn end,
 -- `refused 1`; at a whole record past 2^30, `refused 8`; both with the totals so far." What an input comes to, all of its bytes being given.
 use Prim.Native.Nat.{ℕ, _*_, _/_, _%_, min}
-use mathlib.Core.Bool.{Bool, cond}
+use mathlib.Core.Bool.{cond}
 use mathlib.Core.List.{List}
 use mathlib.Core.Path.{_≡_}
 use lib.ListN.{length, take}
@@ -14,7 +14,7 @@ use Rattle.rules.specs.Recording.{recordingIn}
 use Rattle.rules.specs.State.{isOpen, freshJudge, zeroTally}
 use Rattle.rules.specs.Verdict.{mostRecords, outcomeOf}
 use Rattle.rules.specs.Exact.{Exact}
-use Rattle.stream.specs.declared.Ending.{Ending}
+use Rattle.feeding.specs.declared.Ending.{Ending}
 
 -- the whole records of the input
 abbrev pub wholeIn : List ℕ → ℕ

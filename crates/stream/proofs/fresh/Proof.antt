@@ -1,8 +1,8 @@
--- `stream::Stream::fresh` meets its contract. Assumes nothing.
+-- `stream::fresh` meets its contract. Assumes nothing.
 use Rattle.stream.proofs.Calls.{fresh-ready, fresh-bad}
 use borrow.Author.Needs.{needs}
-use Rattle.stream.proofs.Stream.fresh.Statement.{statement}
-use Rattle.stream.proofs.Stream.fresh.Tie as tie
+use Rattle.stream.proofs.fresh.Statement.{statement}
+use Rattle.stream.proofs.fresh.Tie as tie
 
 fresh-requires : tie.Need-fresh-requires
 fresh-requires c κs = search needs

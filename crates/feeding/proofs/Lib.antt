@@ -1,0 +1,3 @@
+pub mod GoOn
+pub mod Bounds
+pub mod Feeding
