@@ -12,7 +12,7 @@ tally-in-bounds-requires c κs = search needs
 
 returns : tie.Need-returns
 unfolding streamBounds
-returns c = cc
+returns c = simp (c .before .before .before .judge-in-bounds .ensures, c .before .before .tally-in-bounds .ensures)
 
 pub in-bounds-spec : {M : Type 1} → statement M
 in-bounds-spec = tie.close (tie.spec judge-in-bounds-requires tally-in-bounds-requires returns)
