@@ -3,7 +3,7 @@
 # aside, and counts those that show: tests/planted_library.sh [OUTDIR]
 # A program with no proof is never built to a file, so the copy is run from source by `rt try`, over
 # calls and recordings of the outside tests' makers, and what it writes is held to what the model
-# answers. A bug in spurjudge/ is looked for by spurjudge, any other by spurcalls.
+# answers. A bug in what only spurjudge uses is looked for by spurjudge, any other by spurcalls.
 # LISTS is the number of long lists of 3,000 calls for each of five subjects (5), SEED is added to
 # the seeds (0), SHOW=1 shows what `rt try` said, ONLY is a piece of the description of those to be
 # planted.
@@ -39,8 +39,8 @@ for crate in "$here"/../crates/*/; do
 done
 # rt try gives no pipe: here the judging program takes 1,000 bytes at most in a read, which tears
 # records as a pipe does.
-edit spurjudge/src/main.rt 'libc::read(STDIN_FILENO, &mut buffer[torn..])' \
-    'libc::read(STDIN_FILENO, &mut buffer[torn..1000])'
+edit spurjudge/src/main.rt 'libc::read(STDIN_FILENO, buffer)' \
+    'libc::read(STDIN_FILENO, &mut buffer[..1000])'
 
 # A short list, which the interpreter runs to its end, and long ones, in which it stops after ten
 # million steps, first two with 25 damaged recordings for each rule; recordings that conform, with
@@ -93,7 +93,7 @@ one() { # file, old, new, what
     edit "$1" "$2" "$3"
     planted=$((planted + 1))
     program=spurcalls
-    case $1 in spurjudge/*) program=spurjudge ;; esac
+    case $1 in stream/* | printed/* | text/* | spurjudge/*) program=spurjudge ;; esac
     if try "$program"; then
         echo "MISSED: ${1%%/*}: $4"
     else
