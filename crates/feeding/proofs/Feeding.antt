@@ -174,7 +174,7 @@ full s piece e =
     none : judgedOf (s .judge) (s .tally) (tornOf s ++ piece) ≡ record { rule = 0; judge = s .judge; tally = s .tally }
     none = let z : takenIn (s .tally) (tornOf s ++ piece) ≡ 0 = omega arith in ap (λ (k : ℕ). runOf (from (s .judge) (s .tally)) (recordsIn k (tornOf s ++ piece))) z
 
-lawful-limits : (limit : ℕ) → lawfulLimit limit ≡ true → (1 ≤ limit) × (limit ≤ 16)
+pub lawful-limits : (limit : ℕ) → lawfulLimit limit ≡ true → (1 ≤ limit) × (limit ≤ 16)
 lawful-limits limit e = let z = and-both (leb 1 limit) (leb limit 16) e in (leb-true 1 limit (z .0), leb-true limit 16 (z .1))
 
 -- THE PROMISE

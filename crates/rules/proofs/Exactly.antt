@@ -28,12 +28,12 @@ use Rattle.rules.proofs.Step.{JudgeIs, forward-to}
 use Rattle.rules.proofs.Reach.{Reached, reached}
 
 -- ---- the verdict is one
-kept-not : (ps : List (ℕ × Type 0)) (n : ℕ) → AllKept ps → FirstOf n ps → ⊥
+pub kept-not : (ps : List (ℕ × Type 0)) (n : ℕ) → AllKept ps → FirstOf n ps → ⊥
 kept-not [] n k f = f
 kept-not (p ∷ ps) n k (inl f) = f .0 (k .0)
 kept-not (p ∷ ps) n k (inr f) = kept-not ps n (k .1) (f .1)
 
-first-only : (ps : List (ℕ × Type 0)) (m n : ℕ) → FirstOf m ps → FirstOf n ps → m ≡ n
+pub first-only : (ps : List (ℕ × Type 0)) (m n : ℕ) → FirstOf m ps → FirstOf n ps → m ≡ n
 first-only [] m n f g = absurd f
 first-only (p ∷ ps) m n (inl f) (inl g) = f .1 ∙ sym (g .1)
 first-only (p ∷ ps) m n (inl f) (inr g) = absurd (f .0 (g .0))

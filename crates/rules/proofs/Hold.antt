@@ -33,7 +33,7 @@ unfolding wordsAt
 words-exact r i = owed-unit (r i .tm1) (r i .tm0) (r i .ad)
 
 -- ---- the open transfer
-opened-next : (r : Lines) (i k : ℕ) → Opened r i k → r i .reset ≡ false → r i .start ≡ false → r i .ack ≡ false → Opened r (suc i) k
+pub opened-next : (r : Lines) (i k : ℕ) → Opened r i k → r i .reset ≡ false → r i .start ≡ false → r i .ack ≡ false → Opened r (suc i) k
 opened-next r i k o nr ns na =
     record {
       earlier = omega (arith, o .earlier);
@@ -44,7 +44,7 @@ opened-next r i k o nr ns na =
       unanswered = more (λ m. r m .ack ≡ false) (suc k) i (o .unanswered) na;
     }
 
-opened-now : (r : Lines) (i : ℕ) → r i .reset ≡ false → r i .start ≡ true → r i .ack ≡ false → Opened r (suc i) i
+pub opened-now : (r : Lines) (i : ℕ) → r i .reset ≡ false → r i .start ≡ true → r i .ack ≡ false → Opened r (suc i) i
 opened-now r i nr s na =
     record {
       earlier = omega arith;
@@ -55,7 +55,7 @@ opened-now r i nr s na =
       unanswered = λ m gt lt. absurd (omega arith);
     }
 
-opened-before : (r : Lines) (i k : ℕ) → Opened r (suc i) k → k < i → Opened r i k
+pub opened-before : (r : Lines) (i k : ℕ) → Opened r (suc i) k → k < i → Opened r i k
 opened-before r i k o lt =
     record {
       earlier = lt;

@@ -1,0 +1,5 @@
+pub mod Sought
+pub mod Only
+pub mod Onward
+pub mod Reported
+pub mod Phasing
