@@ -15,11 +15,12 @@ use Rattle.rules.specs.Thirteen.{rules, Breaks}
 use Rattle.rules.proofs.Places.{below, same-place, clash}
 use Rattle.rules.proofs.Exactly.{kept-not, first-only}
 use Rattle.feeding.specs.Input.{judgedIn}
+use Rattle.marks.specs.declared.Mark.{Mark}
 use Rattle.marks.specs.declared.Marks.{Marks}
 use Rattle.marks.specs.declared.Report.{Report}
 use Rattle.marks.specs.declared.Why.{Why}
 use Rattle.marks.specs.declared.Why.the-variants.{Complete, AtBreach, Torn, TooMany, Absent, OutOfBounds}
-use Rattle.marks.specs.Marks.{Mark, markAt, Written, FirstWrite, MarkAt, first, next}
+use Rattle.marks.specs.Marks.{markAt, Written, FirstWrite, MarkAt, first, next}
 use Rattle.marks.specs.Report.{diffsOf, FoundAt, NotYet, LastAck, Because, Right}
 
 -- ---- places

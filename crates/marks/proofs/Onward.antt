@@ -9,6 +9,8 @@ use lib.Seq.{length-take-le, drop-drop, drop-append-le, take-append-le, take-app
 use lib.Dec.{ltb}
 use borrow.Author.Tests.{le-ltb}
 use Rattle.basics.proofs.Bools.{choice, by-test, cond-true, cond-false, and-both}
+use Rattle.record.specs.declared.Record.{Record}
+use Rattle.record.specs.Layout.{recordIn}
 use Rattle.rules.specs.declared.Judge.{Judge}
 use Rattle.rules.specs.declared.Tally.{Tally}
 use Rattle.rules.specs.Bounds.{SoundJudge, SoundTally}
@@ -37,7 +39,7 @@ pub feed-clean : (s : Stream) (bytes : List ℕ) → goes (s .stop) ≡ true →
 unfolding feedOf
 feed-clean s bytes g e = cond-true _ _ g ∙ ap (λ (k : ℕ). goneOn (s .judge) (s .tally) (take k (s .torn) ++ bytes)) e
 
-clean-held : (s : Stream) → Clean s → s .held ≡ 0
+pub clean-held : (s : Stream) → Clean s → s .held ≡ 0
 clean-held s c = ap (λ (x : Stream). x .held) c
 
 -- whole records leave none
@@ -103,9 +105,9 @@ pub record Between (p : Phases) : Type 0 where
   pub clean : Clean (p .stream)
   pub sound : Sound (p .stream)
 
-saw-between : (p : Phases) (s : Stream) (sixteen : List ℕ) → Clean s → Sound s → Between (sawOf p s sixteen)
+saw-between : (p : Phases) (s : Stream) (r : Record) → Clean s → Sound s → Between (sawOf p s r)
 unfolding sawOf
-saw-between p s sixteen c h = choice Between (goes (s .stop)) (λ _. record { clean = c; sound = h }) (λ _. record { clean = c; sound = h })
+saw-between p s r c h = choice Between (goes (s .stop)) (λ _. record { clean = c; sound = h }) (λ _. record { clean = c; sound = h })
 
 pub next-between : (p : Phases) (sixteen : List ℕ) → length sixteen ≡ 16 → Between p → Between (nextSeen p sixteen)
 unfolding nextSeen underWay
@@ -114,7 +116,7 @@ next-between p sixteen size b =
     (λ e. let g : goes (p .stream .stop) ≡ true = and-both (goes (p .stream .stop)) (not (allFound p)) e .0 in
     let s = p .stream in
     let is = feed-clean s sixteen g (clean-held s (b .clean)) in
-    saw-between p (feedOf s sixteen) sixteen
+    saw-between p (feedOf s sixteen) (recordIn sixteen)
     (subst Clean (sym is) (gone-clean (s .judge) (s .tally) sixteen (omega arith)))
     (subst Sound (sym is) (gone-sound (s .judge) (s .tally) sixteen (b .sound .0) (b .sound .1 .0) (b .sound .1 .1))))
     (λ _. b)
@@ -135,7 +137,7 @@ rest-is q rest few b e =
     cond-true _ _ e
     ∙ ap (withStream q) (feed-clean s rest g (clean-held s (b .clean)) ∙ gone-rest (s .judge) (s .tally) rest few (b .sound .1 .1))
 
-going-is : (s : Stop) → goes s ≡ true → s ≡ Going
+pub going-is : (s : Stop) → goes s ≡ true → s ≡ Going
 going-is Going e = refl
 going-is (AtBreach b) e = absurd (false≢true e)
 going-is PastMost e = absurd (false≢true e)
@@ -151,6 +153,9 @@ waits-on q rest y b e =
     cond-true _ _ (both .1)
     ∙ ap (λ (l : List ℕ). goneThrough (wholeIn (l ++ y)) (withStream q (stateWith Going (s .judge) (s .tally) [])) (l ++ y)) (torn-is Going (s .judge) (s .tally) rest)
     ∙ ap (λ (x : Stream). goneThrough (wholeIn (rest ++ y)) (withStream q x) (rest ++ y)) same
+
+left-few : (l : List ℕ) → length (drop (wholeIn l * 16) l) < 16
+left-few l = let c = length-drop (wholeIn l * 16) l in omega arith
 
 -- once it is over, nothing changes
 pub fed-over : (p : Phases) (y : List ℕ) → underWay p ≡ false → fedPhases p y ≡ p
@@ -207,3 +212,48 @@ pub more : (p : Phases) (x y : List ℕ) → Sound (p .stream) → fedPhases (fe
 more p x y sound =
     by-test (underWay p) (more-under-way p sound x y)
     (λ e. ap (λ (z : Phases). fedPhases z y) (fed-over p x e) ∙ fed-over p y e ∙ sym (fed-over p (x ++ y) e))
+
+-- ---- what going on keeps
+next-marks : (p : Phases) (sixteen : List ℕ) → nextSeen p sixteen .marks ≡ p .marks
+unfolding nextSeen sawOf
+next-marks p sixteen =
+    let P : Phases → Type 0 = λ q. q .marks ≡ p .marks in
+    choice P (underWay p) (λ _. choice P (goes (feedOf (p .stream) sixteen .stop)) (λ _. refl) (λ _. refl)) (λ _. refl)
+
+walked-marks : (n : ℕ) (p : Phases) (bytes : List ℕ) → walked n p bytes .marks ≡ p .marks
+walked-marks zero p bytes = refl
+walked-marks (suc n) p bytes = walked-marks n (nextSeen p (take 16 bytes)) (drop 16 bytes) ∙ next-marks p (take 16 bytes)
+
+-- nothing to keep changes nothing
+pub rest-none : (q : Phases) → Between q → restKept q [] ≡ q
+unfolding restKept underWay
+rest-none q b =
+    by-test (underWay q)
+    (λ e. rest-is q [] (omega arith) b e
+    ∙ ap (withStream q) (ap (λ (x : Stop). stateWith x (q .stream .judge) (q .stream .tally) []) (sym (going-is (q .stream .stop) (and-both (goes (q .stream .stop)) (not (allFound q)) e .0))) ∙ sym (b .clean)))
+    (λ e. cond-false _ _ e)
+
+-- the bounds of the judge in pieces, and the marks
+pub record Fits (p q : Phases) : Type 0 where
+  pub sound : Sound (q .stream)
+  pub held : q .stream .held < 16
+  pub marks : q .marks ≡ p .marks
+
+pub fed-fits : (p : Phases) (x : List ℕ) → Sound (p .stream) → p .stream .held < 16 → Fits p (fedPhases p x)
+unfolding restKept
+fed-fits p x sound few =
+    by-test (underWay p)
+    (λ e. let b = between p sound x [] e in
+    let same = walked-marks (n p sound x [] e) (untorn p) (all p sound x [] e) in
+    subst (Fits p) (sym (one-piece p sound x [] e))
+    (by-test (underWay (q p sound x [] e))
+    (λ f. subst (Fits p) (sym (rest-is (q p sound x [] e) (rest p sound x [] e) (left-few (tornOf (p .stream) ++ x)) b f)) (record { sound = b .sound; held = left-few (tornOf (p .stream) ++ x); marks = same }))
+    (λ f. subst (Fits p) (sym (cond-false _ _ f)) (record { sound = b .sound; held = (let z = clean-held _ (b .clean) in omega arith); marks = same }))))
+    (λ e. subst (Fits p) (sym (fed-over p x e)) (record { sound = sound; held = few; marks = refl }))
+
+-- whole records leave no torn one
+pub fed-whole : (p : Phases) (x : List ℕ) → Sound (p .stream) → underWay p ≡ true → length (tornOf (p .stream) ++ x) % 16 ≡ 0 → fedPhases p x .stream .held ≡ 0
+fed-whole p x sound e even =
+    let b = between p sound x [] e in
+    let none : rest p sound x [] e ≡ [] = drop-of-length-le (tornOf (p .stream) ++ x) (let z : length (tornOf (p .stream) ++ x) ≤ wholeIn (tornOf (p .stream) ++ x) * 16 = omega arith in z) in
+    ap (λ (z : Phases). z .stream .held) (one-piece p sound x [] e ∙ ap (restKept (q p sound x [] e)) none ∙ rest-none (q p sound x [] e) b) ∙ clean-held _ (b .clean)

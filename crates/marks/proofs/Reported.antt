@@ -36,6 +36,7 @@ use Rattle.feeding.specs.Input.{wholeIn, judgedIn}
 use Rattle.feeding.specs.State.{goes, streamBounds, takenIn, keptOf, stateWith, stateAfter, goneOn, feedOf, lastVerdict, finishOf, freshStream}
 use Rattle.feeding.proofs.Bounds.{are-bounds}
 use Rattle.feeding.proofs.GoOn.{after-breach, after-past, after-going}
+use Rattle.marks.specs.declared.Mark.{Mark}
 use Rattle.marks.specs.declared.Marks.{Marks}
 use Rattle.marks.specs.declared.Pending.{Pending}
 use Rattle.marks.specs.declared.Pending.the-variants.{Nothing, Since}
@@ -44,7 +45,7 @@ use Rattle.marks.specs.declared.Report.{Report}
 use Rattle.marks.specs.declared.Search.{Search}
 use Rattle.marks.specs.declared.Why.{Why}
 use Rattle.marks.specs.declared.Why.the-variants.{Complete, AtBreach, Torn, TooMany, Absent, OutOfBounds}
-use Rattle.marks.specs.Marks.{Mark, markAt, Written, MarkAt, first, next}
+use Rattle.marks.specs.Marks.{markAt, Written, MarkAt, first, next}
 use Rattle.marks.specs.Report.{FoundAt, NotYet, LastAck, Because, Right}
 use Rattle.marks.specs.State.{someMarks, namedTo, lawfulMarks, acked, seenOf, allFound, underWay, risesTo, phasesBounds, withStream, sawOf, nextSeen, restKept, freshPhases, fedPhases, lacking, reportWith, reportOf}
 use Rattle.marks.proofs.Sought.{SearchIs, Behind, start, later, search-next, search-fresh}
@@ -247,10 +248,10 @@ module _ (limit : ℕ) (low : 1 ≤ limit) (high : limit ≤ 16) (m : Marks) (la
     fed : feedOf (p .stream) b ≡ goneOn (judged i .judge) (judged i .tally) b
     fed = ap (λ (s : Stream). feedOf s b) (h .1 .0) ∙ feed-clean (waitingAt i) b refl refl
 
-    seen : (s : Stream) → goneOn (judged i .judge) (judged i .tally) b ≡ s → nextSeen p b ≡ sawOf p s b
+    seen : (s : Stream) → goneOn (judged i .judge) (judged i .tally) b ≡ s → nextSeen p b ≡ sawOf p s (recordIn b)
     unfolding nextSeen underWay
     seen s e =
-        cond-true _ _ (both-and _ _ (ap (λ (x : Stream). goes (x .stop)) (h .1 .0)) (ap not missing)) ∙ ap (λ (x : Stream). sawOf p x b) (fed ∙ e)
+        cond-true _ _ (both-and _ _ (ap (λ (x : Stream). goes (x .stop)) (h .1 .0)) (ap not missing)) ∙ ap (λ (x : Stream). sawOf p x (recordIn b)) (fed ∙ e)
 
     seen-ended : (s : Stream) → goneOn (judged i .judge) (judged i .tally) b ≡ s → goes (s .stop) ≡ false → nextSeen p b ≡ withStream p s
     unfolding sawOf

@@ -15,11 +15,12 @@ use Rattle.codes.specs.Start.{decodeOf}
 use Rattle.rules.specs.Recording.{Lines, cycle, Opened}
 use Rattle.rules.proofs.Places.{below, clash, off-iff}
 use Rattle.rules.proofs.Hold.{opened-next, opened-now, opened-before}
+use Rattle.marks.specs.declared.Mark.{Mark}
 use Rattle.marks.specs.declared.Marks.{Marks}
 use Rattle.marks.specs.declared.Pending.{Pending}
 use Rattle.marks.specs.declared.Pending.the-variants.{Nothing, Since}
 use Rattle.marks.specs.declared.Search.{Search}
-use Rattle.marks.specs.Marks.{Mark, markAt, isStartOf, writesTo, Written, FirstWrite, MarkAt, first, next}
+use Rattle.marks.specs.Marks.{markAt, isStartOf, writesTo, Written, FirstWrite, MarkAt, first, next}
 use Rattle.marks.specs.Report.{FoundAt}
 use Rattle.marks.specs.State.{waiting, acked, seenOf, freshSearch}
 

@@ -13,12 +13,8 @@ use Rattle.codes.specs.declared.Unit.{Unit}
 use Rattle.codes.specs.declared.Unit.the-variants.{Byte, Halfword, Word, Two, Four, Eight, Sixteen}
 use Rattle.codes.specs.Start.{decodeOf}
 use Rattle.rules.specs.Recording.{Lines, Opened}
+use Rattle.marks.specs.declared.Mark.{Mark}
 use Rattle.marks.specs.declared.Marks.{Marks}
-
--- a slot and an interrupt number
-pub record Mark : Type 0 where
-  pub slot : ℕ
-  pub number : ℕ
 
 -- mark p of those that the caller names, counted from 0
 abbrev pub markAt : Marks → ℕ → Mark

@@ -15,6 +15,7 @@ use Rattle.feeding.specs.declared.Stop.the-variants.{Going}
 use Rattle.feeding.specs.declared.Ending.{Ending}
 use Rattle.feeding.specs.Input.{wholeIn}
 use Rattle.feeding.specs.State.{goes, tornOf, streamBounds, stateWith, freshStream, noStream, feedOf, finishOf}
+use Rattle.marks.specs.declared.Mark.{Mark}
 use Rattle.marks.specs.declared.Marks.{Marks}
 use Rattle.marks.specs.declared.Pending.{Pending}
 use Rattle.marks.specs.declared.Pending.the-variants.{Nothing, Since}
@@ -24,7 +25,7 @@ use Rattle.marks.specs.declared.Phased.{Phased}
 use Rattle.marks.specs.declared.Why.{Why}
 use Rattle.marks.specs.declared.Why.the-variants.{Complete, AtBreach, Torn, TooMany, Absent, OutOfBounds}
 use Rattle.marks.specs.declared.Report.{Report}
-use Rattle.marks.specs.Marks.{Mark, markAt, isStartOf}
+use Rattle.marks.specs.Marks.{markAt, isStartOf}
 use Rattle.marks.specs.Report.{diffsOf}
 
 -- ---- the marks
@@ -85,15 +86,15 @@ abbrev pub withStream : Phases → Stream → Phases
 withStream p s = record { stream = s; marks = p .marks; search = p .search }
 
 -- the search sees a record that has been judged, unless it broke a rule or was one too many
-unfoldable pub sawOf : Phases → Stream → List ℕ → Phases
-sawOf p s sixteen =
+unfoldable pub sawOf : Phases → Stream → Record → Phases
+sawOf p s r =
     cond (goes (s .stop))
-    (record { stream = s; marks = p .marks; search = seenOf (markAt (p .marks) (p .search .found)) (p .search) (recordIn sixteen) (s .tally .span) })
+    (record { stream = s; marks = p .marks; search = seenOf (markAt (p .marks) (p .search .found)) (p .search) r (s .tally .span) })
     (withStream p s)
 
 -- the next record is judged, and seen; nothing is looked at any more once this is over
 unfoldable pub nextSeen : Phases → List ℕ → Phases
-nextSeen p sixteen = cond (underWay p) (sawOf p (feedOf (p .stream) sixteen) sixteen) p
+nextSeen p sixteen = cond (underWay p) (sawOf p (feedOf (p .stream) sixteen) (recordIn sixteen)) p
 
 -- what is left behind the last whole record waits in the judge's state
 unfoldable pub restKept : Phases → List ℕ → Phases

@@ -3,6 +3,12 @@
 use feeding::Stream;
 use rules::Broken;
 
+// A slot and an interrupt number.
+pub struct Mark {
+    pub slot: u8,
+    pub number: u8,
+}
+
 // The marks that are looked for, in order: the first `count` of the slots, and of the interrupt numbers.
 pub struct Marks {
     pub slots: [u8; 32],

@@ -136,7 +136,7 @@ fn complete(judge: Judge, tally: Tally, torn: [u8; 16], held: usize, piece: &[u8
 // ---- the calls
 
 // The bounds for refusal 5: those of the judge and of the tally, at most 2^30 records, and fewer than sixteen bytes of a torn record.
-fn in_bounds(stream: Stream) -> bool
+pub fn in_bounds(stream: Stream) -> bool
     ensures { λ r. ⌜ r ≡ streamBounds stream ⌝ }
 {
     let state = stream.judge;
