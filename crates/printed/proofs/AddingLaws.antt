@@ -48,6 +48,6 @@ adds-page {a} {p} {b} {q} {bytes} s f l =
     let e : q .at ≡ length bytes = rw (h .place) in
     record { within = rw e (h .within); text = rw e (h .front); size = rw (e, h .front) }
 
--- put to the front of a buffer, they are the bytes put there
-pub page-put : (buffer next : List ℕ) (p r : Place) {page : List ℕ} {n : ℕ} {bytes : List ℕ} → p ≡ front → Made page n bytes → (r ≡ movedBy (length buffer) p (length (take n page))) × (next ≡ putAt buffer p (take n page)) → (r ≡ movedBy (length buffer) front (length bytes)) × (next ≡ putAt buffer front bytes)
-page-put buffer next p r s m e = rw (s, m .text) at e
+-- put into a buffer, they are the bytes put there
+pub page-put : (buffer next : List ℕ) (p q r : Place) {page : List ℕ} {n : ℕ} {bytes : List ℕ} → p ≡ q → Made page n bytes → (r ≡ movedBy (length buffer) p (length (take n page))) × (next ≡ putAt buffer p (take n page)) → (r ≡ movedBy (length buffer) q (length bytes)) × (next ≡ putAt buffer q bytes)
+page-put buffer next p q r s m e = rw (s, m .text) at e

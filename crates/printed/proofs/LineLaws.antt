@@ -18,7 +18,7 @@ use Rattle.text.proofs.DecimalLaws.{decimal-length}
 use Rattle.printed.specs.Lines.{totalsLine, refusedLine, breachLine, verdictLine, linesOf, pageOf}
 
 -- a number has twenty digits at most
-most : (n : ℕ) → length (decimalOf n) ≤ 20
+pub most : (n : ℕ) → length (decimalOf n) ≤ 20
 most n = decimal-length n .1
 
 totals-most : (t : Tally) (opened : Bool) → length (totalsLine t opened) ≤ 164
@@ -27,28 +27,29 @@ totals-most t opened =
     simp length-append
     (omega (arith, most (t .records), most (t .span), most (t .starts), most (t .acks), most (t .aborted), most (one opened)))
 
-refused-most : (number : ℕ) → length (refusedLine number) ≤ 61
+pub refusal-most : (number : ℕ) → length (refusedLine number) ≤ 61
 unfolding refusedLine
-refused-most number = simp length-append (omega (arith, most number))
+refusal-most number = simp length-append (omega (arith, most number))
 
-breach-most : (b : Broken) → length (breachLine b) ≤ 61
+pub breach-most : (b : Broken) → length (breachLine b) ≤ 61
 unfolding breachLine
 breach-most b = simp length-append (omega (arith, most (b .rule), most (b .place)))
 
 verdict-most : (v : Verdict) → length (verdictLine v) ≤ 61
 verdict-most Conforming = omega arith
 verdict-most (Breach b) = omega (arith, breach-most b)
-verdict-most OutOfBounds = refused-most _
-verdict-most TooMany = refused-most _
-verdict-most Torn = refused-most _
+verdict-most OutOfBounds = refusal-most _
+verdict-most TooMany = refusal-most _
+verdict-most Torn = refusal-most _
 
 pub lines-most : (e : Ending) → length (linesOf e) ≤ 225
 lines-most e =
     simp length-append (omega (arith, totals-most (e .tally) (e .opened), verdict-most (e .verdict)))
 
-pub refusal-most : (number : ℕ) → length (refusedLine number) ≤ 225
-refusal-most number = omega (arith, refused-most number)
-
+-- and so is any text of the judging program
 pub page-most : (limit : ℕ) (bytes : List ℕ) → length (pageOf limit bytes) ≤ 225
 page-most limit bytes =
-    choice (λ (l : List ℕ). length l ≤ 225) (lawfulLimit limit) (λ e. lines-most (endingOf limit bytes)) (λ e. refusal-most _)
+    choice (λ (l : List ℕ). length l ≤ 225) (lawfulLimit limit) (λ e. lines-most (endingOf limit bytes)) (λ e. short (refusal-most _))
+  where
+    short : {n : ℕ} → n ≤ 61 → n ≤ 225
+    short h = omega arith

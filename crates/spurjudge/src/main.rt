@@ -15,6 +15,7 @@ use libc::STDERR_FILENO;
 use libc::STDIN_FILENO;
 use libc::STDOUT_FILENO;
 use text::Number;
+use text::Place;
 
 // The input so far: whether to read on, and whether the last read failed.
 struct Input {
@@ -113,7 +114,7 @@ fn judge_input(limit: u64, buffer: &mut [u8], text: &mut [u8]) -> Said
 {
     let begun = stream::fresh(narrowed(limit));
     if begun.number != 0 {
-        let line = printed::put_refusal(text, begun.number);
+        let line = printed::put_refused(text, Place::front(), begun.number);
         return Said::Page(line.at);
     }
     let fresh = begun.stream;

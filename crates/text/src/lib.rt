@@ -50,20 +50,30 @@ fn copy_at(buffer: &mut [u8], at: usize, word: &[u8])
     }
 }
 
-// Puts a word at the place: all of it, or nothing where it does not fit.
-pub fn put_word(buffer: &mut [u8], place: Place, word: &[u8]) -> Place
-    ensures { λ r. ⌜ (r ≡ movedBy (length (now (buffer .entry))) place (length (now (word .entry)))) × (now (buffer .exit) ≡ putAt (now (buffer .entry)) place (now (word .entry))) ⌝ }
+// The place behind so many bytes more.
+fn moved(size: usize, place: Place, bytes: usize) -> Place
+    ensures { λ r. ⌜ r ≡ movedBy size place bytes ⌝ }
 {
     let at = place.at;
-    if has_room(buffer.len(), place, word.len()) {
-        copy_at(buffer, at, word);
+    if has_room(size, place, bytes) {
         Place {
-            at: at + word.len(),
+            at: at + bytes,
             room: true,
         }
     } else {
         Place { at: 0, room: false }
     }
+}
+
+// Puts a word at the place: all of it, or nothing where it does not fit.
+pub fn put_word(buffer: &mut [u8], place: Place, word: &[u8]) -> Place
+    ensures { λ r. ⌜ (r ≡ movedBy (length (now (buffer .entry))) place (length (now (word .entry)))) × (now (buffer .exit) ≡ putAt (now (buffer .entry)) place (now (word .entry))) ⌝ }
+{
+    let end = moved(buffer.len(), place, word.len());
+    if end.room {
+        copy_at(buffer, place.at, word);
+    }
+    end
 }
 
 fn digit_of(d: u64) -> u8
@@ -89,13 +99,26 @@ fn spell(n: u64, digits: &mut [u8]) -> usize
     at
 }
 
-// Puts a number at the place, in decimal: all of it, or nothing where it does not fit.
+// Puts a name and a number behind it, in decimal: both, or nothing where they do not both fit.
+pub fn put_named(buffer: &mut [u8], place: Place, name: &[u8], n: u64) -> Place
+    ensures { λ r. ⌜ (r ≡ movedBy (length (now (buffer .entry))) place (length (now (name .entry) ++ decimalOf n))) × (now (buffer .exit) ≡ putAt (now (buffer .entry)) place (now (name .entry) ++ decimalOf n)) ⌝ }
+{
+    let mut digits = [0u8; 20];
+    let first = spell(n, &mut digits);
+    let behind = moved(buffer.len(), place, name.len());
+    let both = moved(buffer.len(), behind, 20 - first);
+    if both.room {
+        put_word(buffer, place, name);
+        put_word(buffer, behind, &digits[first..]);
+    }
+    both
+}
+
+// Puts a number alone.
 pub fn put_number(buffer: &mut [u8], place: Place, n: u64) -> Place
     ensures { λ r. ⌜ (r ≡ movedBy (length (now (buffer .entry))) place (length (decimalOf n))) × (now (buffer .exit) ≡ putAt (now (buffer .entry)) place (decimalOf n)) ⌝ }
 {
-    let mut digits = [0u8; 20];
-    let at = spell(n, &mut digits);
-    put_word(buffer, place, &digits[at..])
+    put_named(buffer, place, b"", n)
 }
 
 fn is_digit(byte: u8) -> bool

@@ -44,7 +44,7 @@ same-length c = search needs
 returns : tie.Need-returns
 returns c =
     let a = c .before .before .before .before .before .before .before .before .before .before .before .before .before .before .args in
-    page-put (a .buffer .now) _ _ _ (c .before .before .before .before .before .before .before .before .before .before .before .front .ensures) (made (c .before .before .before .before .before .before)) (c .before .before .put-word .ensures)
+    page-put (a .buffer .now) _ _ _ _ (c .before .before .before .before .before .before .before .before .before .before .before .front .ensures) (made (c .before .before .before .before .before .before)) (c .before .before .put-word .ensures)
 
 pub put-ending-spec : {M : Type 1} → statement M
 put-ending-spec =

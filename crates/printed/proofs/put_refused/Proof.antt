@@ -1,12 +1,30 @@
--- `printed::put_refused` meets its contract. Assumes nothing.
-use Rattle.printed.proofs.AddingLaws.{adds-put, adds-then}
-use Rattle.printed.specs.Lines.{refusedLine}
+-- `printed::put_refused` meets its contract: the page has room for the line, which is put at once. Assumes nothing.
+use mathlib.Core.Path.{refl}
+use native.Mathlib.Omega.{arith}
+use Rattle.printed.specs.Lines.{named, refusedLine}
+use Rattle.printed.proofs.AddingLaws.{Made, adds-put, adds-then, adds-is, adds-page, page-put}
+use Rattle.printed.proofs.LineLaws.{refusal-most}
 use borrow.Author.Needs.{needs}
 use Rattle.printed.proofs.put_refused.Statement.{statement}
 use Rattle.printed.proofs.put_refused.Tie as tie
 
+-- the page holds the line
+made : (c : tie.After-put-word) → Made (c .put-word .last .0) (c .put-word .result .at) (refusedLine (c .before .before .before .before .before .before .before .before .before .args .number))
+unfolding refusedLine
+made c =
+    let put = c .before .before .before .before in
+    let n = put .before .before .before .before .before .args .number in
+    let line = adds-then (adds-is (named "refused " n) (adds-put (put .put-named .ensures))) (adds-put (c .put-word .ensures)) in
+    adds-page (put .before .before .before .front .ensures) line (omega (arith, refusal-most n))
+
+front-requires : tie.Need-front-requires
+front-requires c κs = search needs
+
 slice-aggregate-put-named : tie.Need-slice-aggregate-put-named
 slice-aggregate-put-named c = search needs
+
+slice-aggregate-put-named-2 : tie.Need-slice-aggregate-put-named-2
+slice-aggregate-put-named-2 c = search needs
 
 put-named-requires : tie.Need-put-named-requires
 put-named-requires c κs = search needs
@@ -14,24 +32,42 @@ put-named-requires c κs = search needs
 slice-aggregate-put-word : tie.Need-slice-aggregate-put-word
 slice-aggregate-put-word c = search needs
 
+slice-aggregate-put-word-2 : tie.Need-slice-aggregate-put-word-2
+slice-aggregate-put-word-2 c = search needs
+
 put-word-requires : tie.Need-put-word-requires
 put-word-requires c κs = search needs
+
+array-share-prefix-page : tie.Need-array-share-prefix-page
+array-share-prefix-page c = made (c .before .before) .within
+
+slice-aggregate-put-word-3 : tie.Need-slice-aggregate-put-word-3
+slice-aggregate-put-word-3 c = made (c .before .before .before) .size
+
+put-word-requires-2 : tie.Need-put-word-requires-2
+put-word-requires-2 c κs = search needs
 
 same-length : tie.Need-same-length
 same-length c = search needs
 
 returns : tie.Need-returns
-unfolding refusedLine
 returns c =
-    adds-then (c .before .before .before .before .before .before .before .put-named .ensures) (adds-put (c .before .before .put-word .ensures))
+    let a = c .before .before .before .before .before .before .before .before .before .before .before .before .before .before .before .args in
+    page-put (a .buffer .now) _ _ _ _ refl (made (c .before .before .before .before .before .before)) (c .before .before .put-word2 .ensures)
 
 pub put-refused-spec : {M : Type 1} → statement M
 put-refused-spec =
     tie.close
     (tie.spec
+    front-requires
     slice-aggregate-put-named
+    slice-aggregate-put-named-2
     put-named-requires
     slice-aggregate-put-word
+    slice-aggregate-put-word-2
     put-word-requires
+    array-share-prefix-page
+    slice-aggregate-put-word-3
+    put-word-requires-2
     same-length
     returns)

@@ -81,11 +81,11 @@ returns c =
     let four =
     adds-then
     (adds-then
-    (adds-then (adds-is (named "records " (t .records)) (records .put-named .ensures)) (adds-is (named " span " (t .span)) (span .put-named2 .ensures)))
-    (adds-is (named " starts " (t .starts)) (starts .put-named3 .ensures)))
-    (adds-is (named " acks " (t .acks)) (acks .put-named4 .ensures)) in
-    let five = adds-then four (adds-is (named " aborted " (t .aborted)) (aborted .put-named5 .ensures)) in
-    let bit = adds-as (ap (named " open ") (sym (flag .before .one-if .ensures .0))) (flag .put-named6 .ensures) in
+    (adds-then (adds-is (named "records " (t .records)) (adds-put (records .put-named .ensures))) (adds-is (named " span " (t .span)) (adds-put (span .put-named2 .ensures))))
+    (adds-is (named " starts " (t .starts)) (adds-put (starts .put-named3 .ensures))))
+    (adds-is (named " acks " (t .acks)) (adds-put (acks .put-named4 .ensures))) in
+    let five = adds-then four (adds-is (named " aborted " (t .aborted)) (adds-put (aborted .put-named5 .ensures))) in
+    let bit = adds-as (ap (named " open ") (sym (flag .before .one-if .ensures .0))) (adds-put (flag .put-named6 .ensures)) in
     adds-then (adds-then five (adds-is (named " open " (one (a .opened))) bit)) (adds-put (c .before .before .put-word .ensures))
 
 same-length : tie.Need-same-length

@@ -51,28 +51,28 @@ same-length-2 c = search needs
 
 returns-2 : tie.Need-returns-2
 returns-2 c =
-    adds-as (ap verdictLine (c .before .before .before .before .before .verdict .given .1)) (c .before .before .put-breach .ensures)
+    adds-as (ap verdictLine (c .before .before .before .before .before .verdict .given .1)) (adds-put (c .before .before .put-breach .ensures))
 
 same-length-3 : tie.Need-same-length-3
 same-length-3 c = search needs
 
 returns-3 : tie.Need-returns-3
 returns-3 c =
-    adds-as (ap verdictLine (c .before .before .before .before .enum-told2 .given .1)) (c .before .before .put-refused .ensures)
+    adds-as (ap verdictLine (c .before .before .before .before .enum-told2 .given .1)) (adds-put (c .before .before .put-refused .ensures))
 
 same-length-4 : tie.Need-same-length-4
 same-length-4 c = search needs
 
 returns-4 : tie.Need-returns-4
 returns-4 c =
-    adds-as (ap verdictLine (c .before .before .before .before .enum-told3 .given .1)) (c .before .before .put-refused2 .ensures)
+    adds-as (ap verdictLine (c .before .before .before .before .enum-told3 .given .1)) (adds-put (c .before .before .put-refused2 .ensures))
 
 same-length-5 : tie.Need-same-length-5
 same-length-5 c = search needs
 
 returns-5 : tie.Need-returns-5
 returns-5 c =
-    adds-as (ap verdictLine (c .before .before .before .before .enum-told4 .given .1)) (c .before .before .put-refused3 .ensures)
+    adds-as (ap verdictLine (c .before .before .before .before .enum-told4 .given .1)) (adds-put (c .before .before .put-refused3 .ensures))
 
 pub put-verdict-spec : {M : Type 1} → statement M
 put-verdict-spec =

@@ -10,17 +10,21 @@ narrowed-requires c κs = search needs
 fresh-requires : tie.Need-fresh-requires
 fresh-requires c κs = search needs
 
-put-refusal-requires : tie.Need-put-refusal-requires
-put-refusal-requires c κs = search needs
+front-requires : tie.Need-front-requires
+front-requires c κs = search needs
+
+put-refused-requires : tie.Need-put-refused-requires
+put-refused-requires c κs = search needs
 
 same-length : tie.Need-same-length
 same-length c = search needs
 
 returns : tie.Need-returns
 returns c =
-    let a = c .before .before .before .before .before .before .before .before .before .before .args in
-    let line = c .before .before .put-refusal in
-    refused-says (a .limit) (c .before .before .before .before .before .before .before .narrowed .result) (c .before .before .before .before .before .before .fresh .result) (a .text .now) (line .last .0) (line .result) (c .before .before .before .before .before .before .before .before .before .before .pre) (c .before .before .before .before .before .before .before .narrowed .ensures) (c .before .before .before .before .before .before .fresh .ensures) (c .before .before .before .before .if1 .taken) (line .ensures .0) (line .ensures .1)
+    let a = c .before .before .before .before .before .before .before .before .before .before .before .args in
+    let line = c .before .before .put-refused in
+    let e = rw (c .before .before .before .front .ensures) at (line .ensures) in
+    refused-says (a .limit) (c .before .before .before .before .before .before .before .before .narrowed .result) (c .before .before .before .before .before .before .before .fresh .result) (a .text .now) (line .last .0) (line .result) (c .before .before .before .before .before .before .before .before .before .before .before .pre) (c .before .before .before .before .before .before .before .before .narrowed .ensures) (c .before .before .before .before .before .before .before .fresh .ensures) (c .before .before .before .before .before .if1 .taken) (e .0) (e .1)
 
 read-all-requires : tie.Need-read-all-requires
 read-all-requires c κs = search needs
@@ -46,7 +50,8 @@ judge-input-spec =
     (tie.spec
     narrowed-requires
     fresh-requires
-    put-refusal-requires
+    front-requires
+    put-refused-requires
     same-length
     returns
     read-all-requires
