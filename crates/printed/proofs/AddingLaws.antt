@@ -1,7 +1,7 @@
 -- Laws of a text made piece by piece. Assumes nothing.
 use Prim.Native.Nat.{ℕ, _+_, _≤_}
-use mathlib.Core.Path.{_≡_, _∙_}
-use mathlib.Core.List.{List, [], _++_, append-assoc}
+use mathlib.Core.Path.{_≡_, refl, _∙_}
+use mathlib.Core.List.{List, [], _++_, append-assoc, append-nil}
 use native.Mathlib.Omega.{arith}
 use lib.ListN.{length, take, length-append}
 use Rattle.text.specs.declared.Place.{Place}
@@ -26,6 +26,10 @@ adds-then {a} {p} {b} {q} {c} {r} {x} {y} f g =
           let n : length (t ++ x) ≡ length t + length x = length-append t x in
           rw append-assoc at (g .behind (t ++ x) (f .behind t h (omega arith)) (omega arith));
     }
+
+-- nothing done adds nothing
+pub adds-none : {a : List ℕ} {p : Place} → Adds a p a p []
+adds-none = record { kept = refl; behind = λ t h l. rw append-nil h }
 
 -- the bytes named
 pub adds-is : {a : List ℕ} {p : Place} {b : List ℕ} {q : Place} (x : List ℕ) → Adds a p b q x → Adds a p b q x
