@@ -39,7 +39,7 @@ for crate in "$here"/../crates/*/; do
 done
 # rt try gives no pipe: here the judging program takes 1,000 bytes at most in a read, which tears
 # records as a pipe does.
-edit spurjudge/src/main.rt 'libc::read(STDIN_FILENO, buffer)' \
+edit reading/src/lib.rt 'libc::read(STDIN_FILENO, buffer)' \
     'libc::read(STDIN_FILENO, &mut buffer[..1000])'
 
 # A short list, which the interpreter runs to its end, and long ones, in which it stops after ten
@@ -93,7 +93,7 @@ one() { # file, old, new, what
     edit "$1" "$2" "$3"
     planted=$((planted + 1))
     program=spurcalls
-    case $1 in stream/* | printed/* | text/* | spurjudge/*) program=spurjudge ;; esac
+    case $1 in stream/* | printed/* | text/* | reading/* | spurjudge/*) program=spurjudge ;; esac
     if try "$program"; then
         echo "MISSED: ${1%%/*}: $4"
     else

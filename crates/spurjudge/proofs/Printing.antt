@@ -1,11 +1,10 @@
 -- The text that the program makes is that of the whole input. Assumes nothing.
-use Prim.Native.Nat.{ℕ, _≤_, min}
+use Prim.Native.Nat.{ℕ, min}
 use mathlib.Core.Bool.{true, false}
 use mathlib.Core.List.{List, [], _∷_, _++_, append-nil}
 use mathlib.Core.Path.{_≡_, refl, sym, ap, subst, _∙_}
 use native.Mathlib.Omega.{arith}
-use lib.ListN.{length, take, drop}
-use lib.Seq.{take-at}
+use lib.ListN.{length}
 use lib.Dec.{leb}
 use borrow.Author.Tests.{leb-true, le-leb}
 use Rattle.basics.specs.Numbers.{lawfulLimit}
@@ -17,53 +16,44 @@ use Rattle.feeding.specs.Input.{endingOf}
 use Rattle.feeding.specs.State.{goes, freshStream, freshOf, finishOf}
 use Rattle.feeding.proofs.Feeding.{feeding}
 use Rattle.text.specs.declared.Place.{Place}
-use Rattle.text.specs.Places.{front, movedBy, putAt}
-use Rattle.text.proofs.PlaceLaws.{put-front, put-length, moved-front}
-use Rattle.printed.specs.Lines.{refusedLine, linesOf}
+use Rattle.text.specs.Places.{front, movedBy, putAt, Holds}
+use Rattle.printed.specs.Lines.{refusedLine, linesOf, pageOf}
 use Rattle.printed.proofs.LineLaws.{lines-most, refusal-most}
+use Rattle.reading.specs.declared.Said.the-variants.{Page}
+use Rattle.reading.specs.Pages.{unlawful}
+use Rattle.reading.proofs.Printing.{holds-put, page-fits, page-says, Telling, told-says}
 use Rattle.spurjudge.specs.declared.Input.{Input}
-use Rattle.spurjudge.specs.declared.Said.{Said}
-use Rattle.spurjudge.specs.declared.Said.the-variants.{Page}
-use Rattle.spurjudge.specs.Reads.{ReadOut}
-use Rattle.spurjudge.specs.Pages.{Behind, nothing, anything, Prints, unlawful, judged, unread}
-use Rattle.spurjudge.proofs.Reading.{stateOf, fed-one, heard-holds}
-
--- ---- a text that fits, put to the front
-pub record Put (text after : List ℕ) (n : ℕ) (bytes : List ℕ) : Type 0 where
-  pub within : n ≤ length after
-  pub says : take n after ≡ bytes
-
-put : (text after bytes : List ℕ) (p : Place) → length bytes ≤ length text → p ≡ movedBy (length text) front (length bytes) → after ≡ putAt text front bytes → Put text after (p .at) bytes
-put text after bytes p fits pe ae =
-    let at : p .at ≡ length bytes = ap (λ (q : Place). q .at) (pe ∙ moved-front text bytes fits) in
-    let size : length after ≡ length text = ap length ae ∙ put-length text front bytes in
-    record {
-      within = omega arith;
-      says = ap (λ (k : ℕ). take k after) at ∙ ap (take (length bytes)) (ae ∙ put-front text bytes fits) ∙ take-at bytes (drop (length bytes) text) (length bytes) refl;
-    }
+use Rattle.spurjudge.specs.Pages.{judging, standing, ReadOut, Prints}
+use Rattle.spurjudge.proofs.Reading.{fed-first, judging-pieces}
 
 -- ---- an input that was read
 module _ (limit : ℕ) (lawful : lawfulLimit limit ≡ true) where
-  ending-of : (bytes : List ℕ) → finishOf (stateOf limit bytes) ≡ endingOf limit bytes
-  ending-of bytes = ap finishOf (sym (fed-one limit bytes)) ∙ feeding limit lawful .says (bytes ∷ []) ∙ ap (endingOf limit) (append-nil bytes)
+  ending-of : (bytes : List ℕ) → finishOf (judging .fed (freshStream limit) bytes) ≡ endingOf limit bytes
+  ending-of bytes = ap finishOf (fed-first limit lawful bytes) ∙ feeding limit lawful .says (bytes ∷ []) ∙ ap (endingOf limit) (append-nil bytes)
+
+  page-of : (e : Ending) (bytes : List ℕ) → e ≡ endingOf limit bytes → linesOf e ≡ pageOf limit bytes
+  page-of e bytes is = ap linesOf is ∙ sym (cond-true _ _ lawful)
 
   -- what is behind the bytes that were read changes nothing
-  behind-same : (i : Input) (bytes rest : List ℕ) → i .stream ≡ stateOf limit bytes → Behind i rest → endingOf limit (bytes ++ rest) ≡ endingOf limit bytes
-  behind-same i bytes _ e nothing = ap (endingOf limit) (append-nil bytes)
-  behind-same i bytes _ e (anything rest ended) =
+  behind-same : (bytes rest : List ℕ) → judging .going (judging .fed (freshStream limit) bytes) ≡ false → endingOf limit (bytes ++ rest) ≡ endingOf limit bytes
+  behind-same bytes rest ended =
       ap (λ (l : List ℕ). endingOf limit (l ++ rest)) (sym (append-nil bytes))
-      ∙ feeding limit lawful .rest (bytes ∷ []) rest (ap (λ (s : Stream). goes (s .stop)) (fed-one limit bytes ∙ sym e) ∙ ended)
+      ∙ feeding limit lawful .rest (bytes ∷ []) rest (ap (λ (s : Stream). goes (s .stop)) (sym (fed-first limit lawful bytes)) ∙ ended)
       ∙ ap (endingOf limit) (append-nil bytes)
 
-  pub judged-says : (i : Input) (text after : List ℕ) (e : Ending) (p : Place) → length text ≡ 256 → i .failed ≡ false → ReadOut limit i → e ≡ finishOf (i .stream)
-      → p ≡ movedBy (length text) front (length (linesOf e)) → after ≡ putAt text front (linesOf e) → Prints limit after (Page (p .at))
-  judged-says i text after e p size sound out ee pe ae =
-      let bytes : List ℕ = out .bytes in
-      let holds = heard-holds limit lawful bytes i (out .heard) in
-      let made = put text after (linesOf e) p (let h = lines-most e in omega arith) pe ae in
-      let is : e ≡ endingOf limit bytes = ee ∙ ap finishOf (holds .state) ∙ ending-of bytes in
-      judged (p .at) i (made .within) lawful out sound
-      (λ rest b. made .says ∙ ap linesOf (is ∙ sym (behind-same i bytes rest (holds .state) b)) ∙ sym (cond-true _ _ lawful))
+  judging-tells : Telling judging (freshStream limit) (pageOf limit) (λ s. linesOf (finishOf s))
+  judging-tells =
+      record {
+        says = λ bytes. page-of _ bytes (ending-of bytes);
+        rest = λ bytes rest ended. sym (page-of _ (bytes ++ rest) (sym (behind-same bytes rest ended))) ∙ page-of _ bytes refl;
+      }
+
+  pub judged-says : (i : Input) (text after : List ℕ) (e : Ending) (q : Place) → length text ≡ 256 → i .failed ≡ false → ReadOut limit i → e ≡ finishOf (i .stream)
+      → q ≡ movedBy (length text) front (length (linesOf e)) → after ≡ putAt text front (linesOf e) → Prints limit after (Page (q .at))
+  judged-says i text after e q size sound out ee qe ae =
+      let held = holds-put text after (linesOf e) q (let h = lines-most e in omega arith) qe ae in
+      told-says judging (freshStream limit) (judging-pieces limit lawful) (pageOf limit) _ judging-tells (lawfulLimit limit) lawful (standing i) after q sound out
+      (subst (λ (x : Ending). Holds after q (linesOf x)) ee held)
 
 -- ---- the limit
 limit-same : (limit narrow : ℕ) → narrow ≡ min limit 255 → lawfulLimit narrow ≡ true → limit ≡ narrow
@@ -94,15 +84,9 @@ refused-limit limit narrow begun ne be nz =
     (λ e. absurd (nz (ap (λ (r : Fed). r .number) (be ∙ cond-true _ _ e))))
     (λ e. (not-true (lawfulLimit limit) (λ l. absurd (let zero : _≡_ {A = ℕ} 0 0 = refl in nz (ap (λ (r : Fed). r .number) (be ∙ cond-true _ _ (lawful-narrow limit narrow ne l))))), ap (λ (r : Fed). r .number) (be ∙ cond-false _ _ e)))
 
-pub refused-says : (limit narrow : ℕ) (begun : Fed) (text after : List ℕ) (p : Place) → length text ≡ 256 → narrow ≡ min limit 255 → begun ≡ freshOf narrow → (begun .number ≡ 0 → ⊥)
-    → p ≡ movedBy (length text) front (length (refusedLine (begun .number))) → after ≡ putAt text front (refusedLine (begun .number)) → Prints limit after (Page (p .at))
-refused-says limit narrow begun text after p size ne be nz pe ae =
+pub refused-says : (limit narrow : ℕ) (begun : Fed) (text after : List ℕ) (q : Place) → length text ≡ 256 → narrow ≡ min limit 255 → begun ≡ freshOf narrow → (begun .number ≡ 0 → ⊥)
+    → q ≡ movedBy (length text) front (length (refusedLine (begun .number))) → after ≡ putAt text front (refusedLine (begun .number)) → Prints limit after (Page (q .at))
+refused-says limit narrow begun text after q size ne be nz qe ae =
     let refusal = refused-limit limit narrow begun ne be nz in
-    let made = put text after (refusedLine (begun .number)) p (let h = refusal-most (begun .number) in omega arith) pe ae in
-    unlawful (p .at) (made .within) (refusal .0) (λ bytes. made .says ∙ ap refusedLine (refusal .1) ∙ sym (cond-false _ _ (refusal .0)))
-
--- ---- what is printed stands in the text
-pub page-within : (limit : ℕ) (text : List ℕ) (said : Said) (n : ℕ) → Prints limit text said → said ≡ Page n → n ≤ length text
-page-within limit text _ n (unlawful m within _ _) e = let same : m ≡ n = cc in omega arith
-page-within limit text _ n (judged m i within _ _ _ _) e = let same : m ≡ n = cc in omega arith
-page-within limit text _ n (unread i _ _ _) e = let z : _≡_ {A = ℕ} 0 1 = cc in absurd (omega arith)
+    let held = holds-put text after (refusedLine (begun .number)) q (let h = refusal-most (begun .number) in omega arith) qe ae in
+    unlawful (q .at) (page-fits after _ q held) (refusal .0) (λ bytes. page-says after _ q held ∙ ap refusedLine (refusal .1) ∙ sym (cond-false _ _ (refusal .0)))

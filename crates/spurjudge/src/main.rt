@@ -3,17 +3,17 @@
 // what is printed by `printed`.
 ghost use mathlib.Core.Path.{_≡_};
 ghost use mathlib.Core.Bool.{true};
-ghost use Prim.Native.Nat.{ℕ, min};
+ghost use Prim.Native.Nat.{ℕ};
 ghost use lib.IntN.{ℤ};
 ghost use lib.ListN.{length};
 ghost use Rattle.basics.specs.Numbers.{lawfulLimit};
 ghost use Rattle.feeding.specs.State.{freshStream};
-ghost use Rattle.spurjudge.specs.Reads.{afterRead, ReadOut};
-ghost use Rattle.spurjudge.specs.Pages.{limitGiven, Prints};
+ghost use Rattle.reading.specs.Reads.{takenIn, afterRead};
+ghost use Rattle.spurjudge.specs.Pages.{limitGiven, judging, standing, ReadOut, Prints};
 use feeding::Stream;
 use libc::STDERR_FILENO;
-use libc::STDIN_FILENO;
 use libc::STDOUT_FILENO;
+use reading::Said;
 use text::Number;
 use text::Place;
 
@@ -26,20 +26,19 @@ struct Input {
 
 // ---- reading
 
-// Takes in what a read brought: its answer, and the buffer after it.
-fn take_in(got: isize, buffer: &[u8], input: Input) -> Input
-    ensures { λ r. ⌜ r ≡ afterRead input (record { got = got; buffer = now (buffer .entry) }) ⌝ }
+// Takes in the bytes that a read brought: none at the input's end, or where it failed.
+fn take_in(bytes: &[u8], failed: bool, input: Input) -> Input
+    ensures { λ r. ⌜ standing r ≡ takenIn judging (standing input) failed (now (bytes .entry)) ⌝ }
 {
-    let n = io::count(got, buffer);
     let stream = input.stream;
-    if n == 0 {
+    if bytes.len() == 0 {
         return Input {
             stream: stream,
             more: false,
-            failed: got < 0,
+            failed: failed,
         };
     }
-    let fed = stream::feed(stream, &buffer[..n]);
+    let fed = stream::feed(stream, bytes);
     let next = fed.stream;
     let stop = next.stop;
     Input {
@@ -51,14 +50,14 @@ fn take_in(got: isize, buffer: &[u8], input: Input) -> Input
 
 // Reads once more.
 fn read_more(buffer: &mut [u8], input: Input) -> Input
-    ensures { λ r. ⌜ ((got : ℤ) × (r ≡ afterRead input (record { got = got; buffer = now (buffer .exit) }))) ⌝ }
+    ensures { λ r. ⌜ ((got : ℤ) × (standing r ≡ afterRead judging (standing input) (record { got = got; buffer = now (buffer .exit) }))) ⌝ }
 {
-    let got = libc::read(STDIN_FILENO, buffer);
-    take_in(got, buffer, input)
+    let got = reading::read_once(buffer);
+    let size = got.size;
+    take_in(&buffer[..size], got.failed, input)
 }
 
-// Reads until it need read no more. Every read but the last brings a byte or more, and with the bytes of one record past 2^30 the judging has ended: so
-// many turns are enough.
+// Reads until it need read no more.
 fn read_all(buffer: &mut [u8], begun: Stream) -> Input
     ensures { λ r. ⌜ ((limit : ℕ) → lawfulLimit limit ≡ true → begun ≡ freshStream limit → ReadOut limit r) ⌝ }
 {
@@ -67,31 +66,19 @@ fn read_all(buffer: &mut [u8], begun: Stream) -> Input
         more: true,
         failed: false,
     };
-    let mut turns: u64 = 17179869200;
+    let mut turns: u64 = reading::TURNS;
     while turns > 0 {
-        if !input.more {
-            break;
+        if input.more {
+            input = read_more(buffer, input);
+            turns -= 1;
+        } else {
+            return input;
         }
-        input = read_more(buffer, input);
-        turns -= 1;
     }
     input
 }
 
 // ---- judging
-
-// The text that is to be printed, so many bytes of it, or that standard input can't be read.
-enum Said {
-    Page(usize),
-    CantRead,
-}
-
-// A hold limit as the library takes it: any over 255 is as unlawful as 255.
-fn narrowed(limit: u64) -> u8
-    ensures { λ r. ⌜ r ≡ min limit 255 ⌝ }
-{
-    if limit < 255 { limit as u8 } else { 255 }
-}
 
 // The text for an input that has been read. No verdict after a read that failed: what was not read may break a rule.
 fn told(input: Input, text: &mut [u8]) -> Said
@@ -112,7 +99,7 @@ fn judge_input(limit: u64, buffer: &mut [u8], text: &mut [u8]) -> Said
     requires { ⌜ length (now text) ≡ 256 ⌝ }
     ensures { λ r. ⌜ Prints limit (now (text .exit)) r ⌝ }
 {
-    let begun = stream::fresh(narrowed(limit));
+    let begun = stream::fresh(reading::narrowed(limit));
     if begun.number != 0 {
         let line = printed::put_refused(text, Place::front(), begun.number);
         return Said::Page(line.at);

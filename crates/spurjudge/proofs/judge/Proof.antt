@@ -1,7 +1,7 @@
 -- `spurjudge::judge` meets its contract: what it prints stands in the text. Assumes nothing.
 use mathlib.Core.Path.{sym}
 use lib.Seq.{length-take-le}
-use Rattle.spurjudge.proofs.Printing.{page-within}
+use Rattle.reading.proofs.Printing.{page-within}
 use borrow.Author.Needs.{needs}
 use Rattle.spurjudge.proofs.judge.Statement.{statement}
 use Rattle.spurjudge.proofs.judge.Tie as tie
@@ -22,10 +22,10 @@ enum-known-said : tie.Need-enum-known-said
 enum-known-said c = search needs
 
 array-share-prefix-text : tie.Need-array-share-prefix-text
-array-share-prefix-text c = page-within _ _ (c .before .before .before .before .before .judge-input .result) _ (c .before .before .before .before .before .judge-input .ensures) (c .before .said .given .1)
+array-share-prefix-text c = page-within _ _ _ _ _ (c .before .before .before .before .before .judge-input .result) _ (c .before .before .before .before .before .judge-input .ensures) (c .before .said .given .1)
 
 slice-aggregate-print : tie.Need-slice-aggregate-print
-slice-aggregate-print c = sym (length-take-le _ (c .before .before .before .before .before .before .judge-input .last .1 .1 .0) (page-within _ _ (c .before .before .before .before .before .before .judge-input .result) _ (c .before .before .before .before .before .before .judge-input .ensures) (c .before .before .said .given .1)))
+slice-aggregate-print c = sym (length-take-le _ (c .before .before .before .before .before .before .judge-input .last .1 .1 .0) (page-within _ _ _ _ _ (c .before .before .before .before .before .before .judge-input .result) _ (c .before .before .before .before .before .before .judge-input .ensures) (c .before .before .said .given .1)))
 
 print-requires : tie.Need-print-requires
 print-requires c κs = search needs

@@ -1,22 +1,24 @@
 -- `spurjudge::read_all` meets its contract: after each turn all that the reads brought has been fed. Assumes nothing.
-use Prim.Native.Nat.{ℕ, _-_}
+use Prim.Native.Nat.{_-_}
 use mathlib.Core.Path.{_≡_, refl, _∙_}
 use native.Mathlib.Omega.{arith}
 use lib.ListN.{length}
 use borrow.Author.Needs.{needs}
 use Rattle.feeding.specs.State.{freshStream}
-use Rattle.spurjudge.proofs.Reading.{not-off, not-on, Turning, turns-from, turns-on, turns-end, turns-stop}
+use Rattle.reading.proofs.Reading.{Turning, turns-start, turns-on, turns-end, turns-stop}
+use Rattle.spurjudge.specs.Pages.{judging, standing}
+use Rattle.spurjudge.proofs.Reading.{judging-pieces}
 use Rattle.spurjudge.proofs.read_all.Statement.{statement}
 use Rattle.spurjudge.proofs.read_all.Tie as tie
 
 abbrev Inv-loop : tie.InvT-loop
-Inv-loop buffer₀ input₀ turns₀ buffer input turns = (length buffer ≡ length buffer₀) × ((limit : ℕ) → input₀ .stream ≡ freshStream limit → Turning limit turns input)
+Inv-loop buffer₀ input₀ turns₀ buffer input turns = (length buffer ≡ length buffer₀) × Turning judging (input₀ .stream) turns (standing input)
 
 abbrev μ-loop : tie.MeasureT-loop
 μ-loop buffer₀ input₀ turns₀ buffer input turns = turns
 
 loop-holds : tie.Need-loop-holds Inv-loop μ-loop
-loop-holds c = (refl, λ limit e. turns-from limit (c .before .args .begun) e)
+loop-holds c = (refl, turns-start judging (c .before .args .begun) _ (omega arith))
 
 read-more-requires : tie.Need-read-more-requires Inv-loop μ-loop
 read-more-requires c κs = search needs
@@ -29,22 +31,21 @@ loop-less c = omega arith
 
 loop-again : tie.Need-loop-again Inv-loop μ-loop
 loop-again c =
-    let l = c .before .before .before .before .before .before .before .loop in
-    let more = c .before .before .before .before .if1 .left in
+    let l = c .before .before .before .before .before .before .loop in
     let got = c .before .before .read-more .ensures in
-    (c .before .before .read-more .kept .0 ∙ l .inv .0, λ limit e. turns-on limit (l .turns) (l .turns - 1) (l .input) _ _ (l .inv .1 limit e) (not-off (l .input .more) more) (got .1) (omega arith))
+    (c .before .before .read-more .kept .0 ∙ l .inv .0, turns-on judging _ (l .turns) (l .turns - 1) (standing (l .input)) _ _ (l .inv .1) (c .before .before .before .before .if1 .taken) (got .1) (omega arith))
 
 same-length : tie.Need-same-length Inv-loop μ-loop
-same-length c = c .before .loop .inv .0
+same-length c = c .before .before .loop .inv .0
 
 returns : tie.Need-returns Inv-loop μ-loop
-returns c = λ limit lawful e. turns-end limit lawful (c .before .loop .turns) (c .before .loop .input) (c .before .loop .inv .1 limit e) (omega arith)
+returns c = λ limit lawful e. turns-stop judging _ (freshStream limit) e (c .before .before .loop .turns) (standing (c .before .before .loop .input)) (c .before .before .loop .inv .1) (c .if1 .left)
 
 same-length-2 : tie.Need-same-length-2 Inv-loop μ-loop
-same-length-2 c = c .before .before .before .loop .inv .0
+same-length-2 c = c .before .loop .inv .0
 
 returns-2 : tie.Need-returns-2 Inv-loop μ-loop
-returns-2 c = λ limit lawful e. turns-stop limit (c .before .before .before .loop .turns) (c .before .before .before .loop .input) (c .before .before .before .loop .inv .1 limit e) (not-on (c .before .before .before .loop .input .more) (c .if1 .taken))
+returns-2 c = λ limit lawful e. turns-end judging _ (freshStream limit) e (judging-pieces limit lawful) (c .before .loop .turns) (standing (c .before .loop .input)) (c .before .loop .inv .1) (omega arith)
 
 pub read-all-spec : {M : Type 1} → statement M
 read-all-spec =

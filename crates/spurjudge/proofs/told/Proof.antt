@@ -1,12 +1,13 @@
 -- `spurjudge::told` meets its contract. Assumes nothing.
-use Rattle.spurjudge.specs.Pages.{unread}
+use Rattle.reading.specs.Pages.{unread}
+use Rattle.spurjudge.specs.Pages.{standing}
 use Rattle.spurjudge.proofs.Printing.{judged-says}
 use borrow.Author.Needs.{needs}
 use Rattle.spurjudge.proofs.told.Statement.{statement}
 use Rattle.spurjudge.proofs.told.Tie as tie
 
 returns : tie.Need-returns
-returns c = λ limit lawful out. unread (c .before .before .args .input) lawful out (c .if1 .taken)
+returns c = λ limit lawful out. unread (standing (c .before .before .args .input)) lawful out (c .if1 .taken)
 
 finish-requires : tie.Need-finish-requires
 finish-requires c κs = search needs

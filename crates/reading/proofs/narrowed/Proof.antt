@@ -1,7 +1,7 @@
--- `spurjudge::narrowed` meets its contract; with a file of its own, so that a wrong build is refused here. Assumes nothing.
+-- `reading::narrowed` meets its contract; with a file of its own, so that a wrong build is refused here. Assumes nothing.
 use native.Mathlib.Omega.{arith}
-use Rattle.spurjudge.proofs.narrowed.Statement.{statement}
-use Rattle.spurjudge.proofs.narrowed.Tie as tie
+use Rattle.reading.proofs.narrowed.Statement.{statement}
+use Rattle.reading.proofs.narrowed.Tie as tie
 
 cast-result : tie.Need-cast-result
 cast-result c = omega arith
