@@ -5,10 +5,8 @@ use mathlib.Core.List.{List, [], _∷_, _++_, append-nil}
 use mathlib.Core.Path.{_≡_, refl, sym, ap, subst, _∙_}
 use native.Mathlib.Omega.{arith}
 use lib.ListN.{length}
-use lib.Dec.{leb}
-use borrow.Author.Tests.{leb-true, le-leb}
 use Rattle.basics.specs.Numbers.{lawfulLimit}
-use Rattle.basics.proofs.Bools.{by-test, cond-true, cond-false, and-both, both-and, not-true}
+use Rattle.basics.proofs.Bools.{by-test, cond-true, cond-false}
 use Rattle.feeding.specs.declared.Stream.{Stream}
 use Rattle.feeding.specs.declared.Fed.{Fed}
 use Rattle.feeding.specs.declared.Ending.{Ending}
@@ -21,6 +19,7 @@ use Rattle.printed.specs.Lines.{refusedLine, linesOf, pageOf}
 use Rattle.printed.proofs.LineLaws.{lines-most, refusal-most}
 use Rattle.reading.specs.declared.Said.the-variants.{Page}
 use Rattle.reading.specs.Pages.{unlawful}
+use Rattle.reading.proofs.Narrow.{narrow-same, narrow-lawful}
 use Rattle.reading.proofs.Printing.{holds-put, page-fits, page-says, Telling, told-says}
 use Rattle.spurjudge.specs.declared.Input.{Input}
 use Rattle.spurjudge.specs.Pages.{judging, standing, ReadOut, Prints}
@@ -56,25 +55,11 @@ module _ (limit : ℕ) (lawful : lawfulLimit limit ≡ true) where
       (subst (λ (x : Ending). Holds after q (linesOf x)) ee held)
 
 -- ---- the limit
-limit-same : (limit narrow : ℕ) → narrow ≡ min limit 255 → lawfulLimit narrow ≡ true → limit ≡ narrow
-limit-same limit narrow e lawful =
-    let z = and-both (leb 1 narrow) (leb narrow 16) lawful in
-    let high = leb-true narrow 16 (z .1) in
-    omega arith
-
-lawful-narrow : (limit narrow : ℕ) → narrow ≡ min limit 255 → lawfulLimit limit ≡ true → lawfulLimit narrow ≡ true
-lawful-narrow limit narrow e lawful =
-    let z = and-both (leb 1 limit) (leb limit 16) lawful in
-    let low = leb-true 1 limit (z .0) in
-    let high = leb-true limit 16 (z .1) in
-    both-and (leb 1 narrow) (leb narrow 16) (le-leb 1 narrow (omega arith)) (le-leb narrow 16 (omega arith))
-
 pub begun-lawful : (limit narrow : ℕ) (begun : Fed) → narrow ≡ min limit 255 → begun ≡ freshOf narrow → begun .number ≡ 0 → (lawfulLimit limit ≡ true) × (begun .stream ≡ freshStream limit)
 unfolding freshOf
 begun-lawful limit narrow begun ne be z =
     by-test (lawfulLimit narrow)
-    (λ e. let same = limit-same limit narrow ne e in
-    (subst (λ (k : ℕ). lawfulLimit k ≡ true) (sym same) e, ap (λ (r : Fed). r .stream) (be ∙ cond-true _ _ e) ∙ ap freshStream (sym same)))
+    (λ e. (sym (narrow-lawful limit narrow ne) ∙ e, ap (λ (r : Fed). r .stream) (be ∙ cond-true _ _ e) ∙ ap freshStream (sym (narrow-same limit narrow ne e))))
     (λ e. let three : _≡_ {A = ℕ} 3 0 = sym (ap (λ (r : Fed). r .number) (be ∙ cond-false _ _ e)) ∙ z in absurd (omega arith))
 
 refused-limit : (limit narrow : ℕ) (begun : Fed) → narrow ≡ min limit 255 → begun ≡ freshOf narrow → (begun .number ≡ 0 → ⊥) → (lawfulLimit limit ≡ false) × (begun .number ≡ 3)
@@ -82,7 +67,7 @@ unfolding freshOf
 refused-limit limit narrow begun ne be nz =
     by-test (lawfulLimit narrow)
     (λ e. absurd (nz (ap (λ (r : Fed). r .number) (be ∙ cond-true _ _ e))))
-    (λ e. (not-true (lawfulLimit limit) (λ l. absurd (let zero : _≡_ {A = ℕ} 0 0 = refl in nz (ap (λ (r : Fed). r .number) (be ∙ cond-true _ _ (lawful-narrow limit narrow ne l))))), ap (λ (r : Fed). r .number) (be ∙ cond-false _ _ e)))
+    (λ e. (sym (narrow-lawful limit narrow ne) ∙ e, ap (λ (r : Fed). r .number) (be ∙ cond-false _ _ e)))
 
 pub refused-says : (limit narrow : ℕ) (begun : Fed) (text after : List ℕ) (q : Place) → length text ≡ 256 → narrow ≡ min limit 255 → begun ≡ freshOf narrow → (begun .number ≡ 0 → ⊥)
     → q ≡ movedBy (length text) front (length (refusedLine (begun .number))) → after ≡ putAt text front (refusedLine (begun .number)) → Prints limit after (Page (q .at))
