@@ -9,6 +9,7 @@ cd "$(dirname "$0")"
 flags="-O2 -std=c11 -Wall -Wextra -Werror"
 model="record codes contest bus cache judging calls"
 makers="make traffic wild damage callsmake callsbus callscache callsjudge"
+marks="marks marked"
 running="run describe compare"
 for c in *.c; do
     ${CC:-cc} $flags -c -o "$out/obj/${c%.c}.o" "$c"
@@ -23,7 +24,8 @@ link outside $model $makers $running
 link faults bigstreams boundary $model $makers $running
 link limits $model $makers $running
 link golden goldenrules $model $makers $running
-link selftest lookback $model $makers
+link modelphases marks $model
+link selftest lookback selfmarks marksback $marks $model $makers
 link makerec $model $makers
 link makecalls $model $makers
 for p in judge make; do

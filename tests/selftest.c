@@ -1,12 +1,13 @@
 /* The model against itself: its judge against the rules said of the recording alone, on sound,
-   wild and damaged recordings; and the stepper's traffic against the judge (the maker stops the
-   program where that breaks a rule).
+   wild and damaged recordings; the stepper's traffic against the judge (the maker stops the
+   program where that breaks a rule); and its boot report against a second way.
 
    selftest [COUNT [SEED]] */
 #include <stdio.h>
 #include <stdlib.h>
 #include "lookback.h"
 #include "make.h"
+#include "selfmarks.h"
 
 static unsigned long compared, differ, rules[14];
 
@@ -55,6 +56,8 @@ int main(int argc, char **argv)
     printf("by rule:");
     for (int r = 0; r <= 13; r++)
         printf(" %d:%lu", r, rules[r]);
-    printf("\nselftest: %lu passed, %lu failed\n", compared - differ, differ);
+    printf("\n");
+    compared += selfmarks(count, &g, &differ);
+    printf("selftest: %lu passed, %lu failed\n", compared - differ, differ);
     return differ > 0 || compared == 0;
 }
