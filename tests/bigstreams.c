@@ -64,11 +64,6 @@ struct tally blocks_tally(const struct block *b, uint64_t blocks)
     return t;
 }
 
-struct stream {
-    struct block *block;
-    uint64_t blocks;
-};
-
 void set_stamps(struct block *b, uint32_t base)
 {
     for (size_t i = 0; i < BLOCK; i++) {
@@ -81,7 +76,7 @@ void set_stamps(struct block *b, uint32_t base)
     }
 }
 
-static void write_stream(int to, void *with)
+void write_stream(int to, void *with)
 {
     struct stream *s = with;
     uint32_t base = 0;
@@ -119,27 +114,36 @@ long run_stream(const char *what, writer *write, void *with, uint64_t records, c
     return memory;
 }
 
-static long run_blocks(const char *what, struct block *b, uint64_t blocks)
+static void judged_blocks(const struct block *b, uint64_t blocks, char *text)
+{
+    struct tally t = blocks_tally(b, blocks);
+    judge_text(&t, 0, 0, 0, text);
+}
+
+static long run_blocks(const char *what, struct block *b, uint64_t blocks, blocks_text *right)
 {
     struct stream s = {b, blocks};
-    struct tally t = blocks_tally(b, blocks);
     char text[TEXT];
-    judge_text(&t, 0, 0, 0, text);
+    right(b, blocks, text);
     return run_stream(what, write_stream, &s, blocks * BLOCK, text);
 }
 
-/* The same memory at 1 MiB and at the size asked for. */
-void big_memory(void)
+void steady_memory(blocks_text *text)
 {
     struct block *b = make_block(set.seed);
     char detail[100];
-    long small = run_blocks("1 MiB", b, 16);
-    long large = run_blocks("the long recording", b, 16 * (uint64_t)set.megabytes);
+    long small = run_blocks("1 MiB", b, 16, text);
+    long large = run_blocks("the long recording", b, 16 * (uint64_t)set.megabytes, text);
     snprintf(detail, sizeof detail, "%ld KiB at 1 MiB, %ld KiB at %lu MiB", small, large,
              set.megabytes);
     long apart = large > small ? large - small : small - large;
     outcome(small >= 0 && large >= 0 && apart <= 256 + small / 10, "memory doesn't grow", detail);
     free(b);
+}
+
+void big_memory(void)
+{
+    steady_memory(judged_blocks);
 }
 
 /* Random bytes. As they are, they break a rule at once; with the spare bits and stamps put right,

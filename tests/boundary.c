@@ -22,7 +22,7 @@ struct bound {
     int rule, refusal;
 };
 
-static const struct bound bounds[] = {
+static const struct bound bounds[JUDGE_BOUNDS] = {
     {"2^30 records", WHOLE, 0, NOWHERE, 0, 0},
     {"2^30 records and one", WHOLE, RECORD, NOWHERE, 0, 8},
     {"2^30 records and a torn piece", WHOLE, 5, NOWHERE, 0, 1},
@@ -31,7 +31,6 @@ static const struct bound bounds[] = {
     {"a read across, a breach in the last record before", WHOLE - ACROSS, BEHIND, BLOCK - 1, 1, 0},
     {"a read across, a breach in the first record behind", WHOLE - ACROSS + 5, BEHIND, BLOCK, 0, 8},
 };
-enum { BOUNDS = sizeof bounds / sizeof bounds[0] };
 
 struct last {
     const struct bound *bound;
@@ -100,14 +99,12 @@ void big_boundary(void)
 {
     struct block *b = make_block(set.seed + 1);
     char text[TEXT];
-    for (int i = 0; i < BOUNDS; i++) {
+    for (int i = 0; i < JUDGE_BOUNDS; i++) {
         struct last l = {&bounds[i], b, MOST_RECORDS / BLOCK - 1};
-        if (set.bound != 0 && set.bound != i + 1)
+        if (!bound_wanted(1 + i))
             continue;
         bound_text(&l, text);
         run_stream(bounds[i].what, write_bound, &l, MOST_RECORDS, text);
     }
-    if (set.bound > BOUNDS)
-        outcome(0, "--bound", "there is no such run");
     free(b);
 }

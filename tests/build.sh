@@ -21,10 +21,11 @@ link() { # the program, then its objects
 link modelcalls $model
 link modeljudge $model
 link outside $model $makers $running
-link faults bigstreams boundary $model $makers $running
+link faults bigstreams boundary phasefaults marks $model $makers $running
 link limits $model $makers $running
-link golden goldenrules $model $makers $running
+link golden goldenrules goldenphases $model $makers $running
 link modelphases marks $model
+link phases phasewords $marks $model $makers $running
 link selftest lookback selfmarks marksback $marks $model $makers
 link makerec $model $makers
 link makecalls $model $makers

@@ -3,6 +3,10 @@
 #define COMPARE_H
 #include "run.h"
 
+/* What a program is to print for a recording; MOST_TEXT is enough room. */
+enum { MOST_TEXT = 4096 };
+typedef void recording_model(const void *with, const uint8_t *bytes, size_t len, char *text);
+
 /* Where and how a program's output differs from the model's: the unit (call or record) at which
    it is told, or -1 for none. */
 struct subject_program {
@@ -11,6 +15,8 @@ struct subject_program {
     struct feed feed;
     int seconds;
     int statuses;    /* judge: the exit status is to be 0, 1, 2 by verdict */
+    recording_model *model; /* of another program than the judge, else NULL */
+    const void *with;
 };
 long disagree(const struct subject_program *p, const struct buffer *in, FILE *say);
 /* Drops units and clears bytes while the disagreement stays. */

@@ -1,9 +1,9 @@
 /* Faults: torn ends, input in small pieces, inputs and outputs that are closed or fail, random
    bytes, memory, and with --boundary the real bound of 2^30 records; --bound K has the K-th run
-   there alone.
+   there alone. The boot report's program has the same, where it is given.
 
-   faults --judge COMMAND [--megabytes N] [--seed S] [--seconds T] [--boundary] [--bound K]
-          [--quick] */
+   faults --judge COMMAND [--phases COMMAND] [--megabytes N] [--seed S] [--seconds T] [--boundary]
+          [--bound K] [--quick] */
 #define _DEFAULT_SOURCE 1
 #include <fcntl.h>
 #include <signal.h>
@@ -120,7 +120,7 @@ static void unreadable(const char *what, int in)
     result_free(&r);
 }
 
-static void failing_input(struct rng *g)
+void failing_input(struct rng *g)
 {
     int fd, ends[2];
     unreadable("closed standard input", -1);
@@ -177,7 +177,7 @@ static void unwritable(const char *what, int out, int ignore, const uint8_t *byt
     fclose(f);
 }
 
-static void failing_output(struct rng *g)
+void failing_output(struct rng *g)
 {
     struct maker m = some_traffic(g, 300);
     int fd = open("/dev/full", O_WRONLY), ends[2];
@@ -209,6 +209,8 @@ static void read_options(int argc, char **argv)
             set.quick = 1;
         else if (i + 1 < argc && strcmp(argv[i], "--judge") == 0)
             set.command = argv[++i];
+        else if (i + 1 < argc && strcmp(argv[i], "--phases") == 0)
+            set.phases = argv[++i];
         else if (i + 1 < argc && strcmp(argv[i], "--megabytes") == 0)
             set.megabytes = strtoul(argv[++i], NULL, 0);
         else if (i + 1 < argc && strcmp(argv[i], "--seed") == 0)
@@ -221,10 +223,15 @@ static void read_options(int argc, char **argv)
             set.command = NULL, i = argc;
     }
     if (set.command == NULL) {
-        fprintf(stderr, "faults --judge COMMAND [--megabytes N] [--seed S] [--seconds T] "
-                        "[--boundary] [--bound K] [--quick]\n");
+        fprintf(stderr, "faults --judge COMMAND [--phases COMMAND] [--megabytes N] [--seed S] "
+                        "[--seconds T] [--boundary] [--bound K] [--quick]\n");
         exit(2);
     }
+}
+
+int bound_wanted(int number)
+{
+    return set.bound == 0 ? set.boundary : set.bound == number;
 }
 
 int main(int argc, char **argv)
@@ -240,8 +247,13 @@ int main(int argc, char **argv)
     failing_output(&g);
     big_random();
     big_memory();
-    if (set.boundary || set.bound > 0)
-        big_boundary();
+    if (set.phases != NULL)
+        phase_faults(&g);
+    big_boundary();
+    if (set.phases != NULL)
+        phase_boundary();
+    if (set.bound > JUDGE_BOUNDS + (set.phases != NULL ? PHASE_BOUNDS : 0))
+        outcome(0, "--bound", "there is no such run");
     printf("faults: %lu passed, %lu failed\n", passed, failed);
     return failed > 0;
 }

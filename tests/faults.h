@@ -1,9 +1,10 @@
-/* Faults in the world around the judging program. */
+/* Faults in the world around the judging program, and the boot report's. */
 #ifndef FAULTS_H
 #define FAULTS_H
 #include "run.h"
 struct settings {
-    const char *command;
+    const char *command; /* of the program under test, with its words */
+    const char *phases;  /* the boot report's program, without words, or NULL */
     unsigned long megabytes; /* of random bytes, and of the long recording whose memory is measured */
     int boundary, bound, seconds; /* all runs at 2^30 records; one of them, 0 for none */
     int quick; /* without torn ends and small pieces */
@@ -13,6 +14,9 @@ extern struct settings set;
 void outcome(int good, const char *what, const char *detail);
 /* Whether the program printed exactly this text, in time. */
 int printed(const struct result *r, const char *text);
+/* Inputs that can't be read, and outputs that can't be written. */
+void failing_input(struct rng *g);
+void failing_output(struct rng *g);
 
 /* A block of sound traffic that starts and ends at a reset, so that it can be repeated: only the
    stamps move on. */
@@ -25,10 +29,25 @@ struct block {
 struct block *make_block(unsigned long seed);
 struct tally blocks_tally(const struct block *b, uint64_t blocks); /* of so many blocks */
 void set_stamps(struct block *b, uint32_t base);
+/* A writer of so many blocks. */
+struct stream {
+    struct block *block;
+    uint64_t blocks;
+};
+void write_stream(int to, void *with);
 /* Runs a writer, compares the text, and gives the memory used in KiB, or -1. */
 long run_stream(const char *what, writer *write, void *with, uint64_t records, const char *text);
 
 void big_random(void);
 void big_memory(void);
+/* The same memory at 1 MiB and at the size asked for; the text is told of so many blocks. */
+typedef void blocks_text(const struct block *b, uint64_t blocks, char *text);
+void steady_memory(blocks_text *text);
+
+/* The runs at 2^30 records, the judging program's first; all, or the one that is asked for. */
+enum { JUDGE_BOUNDS = 7, PHASE_BOUNDS = 5 };
+int bound_wanted(int number);
 void big_boundary(void);
+void phase_boundary(void);
+void phase_faults(struct rng *g);
 #endif

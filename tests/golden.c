@@ -1,7 +1,7 @@
 /* Golden cases: 01's checked examples with answers written down by hand, not by the model, and
-   small recordings for each rule with a near twin that conforms.
+   small recordings for each rule with a near twin that conforms, and for boot reports.
 
-   golden [--judge COMMAND] [--calls COMMAND] */
+   golden [--judge COMMAND] [--calls COMMAND] [--phases COMMAND] */
 #define _DEFAULT_SOURCE 1
 #include <stdio.h>
 #include <string.h>
@@ -285,6 +285,8 @@ int main(int argc, char **argv)
             golden_rules(argv[i + 1]);
         else if (strcmp(argv[i], "--calls") == 0)
             through_calls(argv[i + 1]);
+        else if (strcmp(argv[i], "--phases") == 0)
+            golden_phases(argv[i + 1]);
         else
             break;
     }

@@ -1,9 +1,5 @@
 /* 01's program example, and for each rule of the judge a few records that break it first and a
-   near twin that conforms. Written down by hand.
-
-   A recording is told in words, a record up to each semicolon: the stamp in hexadecimal, then
-   R RESET, Q RQST, S START, K ACK, T TM1, t TM0, P SP, V SPV, aN ARB, dN AD (hexadecimal), sN
-   spare bits. */
+   near twin that conforms. Written down by hand, in golden_tell's words. */
 #include <stdio.h>
 #include <stdlib.h>
 #include <string.h>
@@ -84,7 +80,7 @@ static const struct {
     {"nothing", "", "0 0 0 0 0 0", "conforming"},
 };
 
-static size_t tell(const char *words, uint8_t *bytes)
+size_t golden_tell(const char *words, uint8_t *bytes)
 {
     size_t len = 0;
     while (*words != '\0') {
@@ -140,7 +136,7 @@ static void rule_11(const char *command)
         snprintf(words + n, sizeof words - (size_t)n, "%X S Q K T t a7; %X Q; %X Q; ", at, at + 1,
                  at + 2);
     }
-    size_t len = tell(words, bytes);
+    size_t len = golden_tell(words, bytes);
     text_of("50 49 16 16 0 0", "breach rule 11 record 50", text);
     golden_recording(command, "11", bytes, len, text);
     text_of("50 49 16 16 0 0", "conforming", text);
@@ -156,7 +152,7 @@ void golden_rules(const char *command)
     golden_recording(command, "torn example", example, 63,
                      "records 3 span 2 starts 1 acks 0 aborted 0 open 1\nrefused 1\n");
     for (size_t i = 0; i < sizeof cases / sizeof cases[0]; i++) {
-        size_t len = tell(cases[i].records, bytes);
+        size_t len = golden_tell(cases[i].records, bytes);
         text_of(cases[i].totals, cases[i].verdict, text);
         golden_recording(command, cases[i].name, bytes, len, text);
     }

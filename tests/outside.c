@@ -63,8 +63,8 @@ static struct feed some_feed(struct rng *g, size_t len)
 
 static void one_recording(struct rng *g, struct buffer *in, const char *what, unsigned long seed)
 {
-    struct subject_program p = {options.judge, RECORD, {BY_FILE, 0}, options.seconds,
-                                options.statuses};
+    struct subject_program p = {.command = options.judge, .unit = RECORD,
+                                .seconds = options.seconds, .statuses = options.statuses};
     p.feed = some_feed(g, in->len);
     if (rng_chance(g, 10)) { /* a torn end */
         uint8_t piece[15];
@@ -148,7 +148,8 @@ static void lists(struct rng *g, unsigned long seed)
     for (int s = 0; s < SUBJECTS; s++) {
         int rounds = s == EVERY_CODE ? seed == FIXED_SEED : s == BUS || s == JUDGE ? 2 * some : some;
         for (int i = 0; i < rounds; i++) {
-            struct subject_program p = {options.calls, CALL, {BY_FILE, 0}, options.seconds, 0};
+            struct subject_program p = {.command = options.calls, .unit = CALL,
+                                        .seconds = options.seconds};
             struct buffer in = {0};
             char what[64];
             make_calls(&in, g, (enum subject)s, CALLS_A_LIST);

@@ -1,14 +1,16 @@
 #!/bin/sh
 # Plants the bugs of planted.txt, one at a time, in a copy of the model that stands in for the
 # programs, and counts those that the outside tests catch: tests/planted.sh [OUTDIR]
-# COUNT is the outside test's share (30), SHOW=1 shows what was found, made small, ONLY is a piece
-# of the description of those to be planted.
+# COUNT is the outside tests' share (30), SHOW=1 shows what was found, made small, ONLY is a piece
+# of the file's name, a blank and the description of those to be planted.
 here=$(cd "$(dirname "$0")" && pwd)
 out=${1:-$(mktemp -d)}
 count=${COUNT:-30}
 sh "$here/build.sh" "$out" || exit 2
 out=$(cd "$out" && pwd)
 "$out/outside" --judge "$out/modeljudge" --calls "$out/modelcalls" --count "$count" --seed 1 |
+    tail -n 1 | sed 's/^/without a bug: /'
+"$out/phases" --program "$out/modelphases" --count "$count" --seed 1 |
     tail -n 1 | sed 's/^/without a bug: /'
 planted=0 caught=0
 
@@ -30,12 +32,21 @@ plant() { # file, old, new: a copy of the file with the first old replaced, and 
         ${CC:-cc} -o "../$p" $p.o record.o codes.o contest.o bus.o cache.o judging.o calls.o ||
             exit 2
     done
+    ${CC:-cc} -o ../modelphases modelphases.o marks.o record.o codes.o judging.o || exit 2
 }
 
-one() { # file, old, new, what
-    plant "$1" "$2" "$3"
-    planted=$((planted + 1))
-    by=
+# Those of a bug in the boot report, and of one in all else.
+by_phases() { # file
+    "$out/phases" --program "$out/bug/modelphases" --count "$count" --seed 1 --first \
+        $([ -z "$SHOW" ] && echo --unshrunk) >"$out/found" 2>&1 || by=phases
+    "$out/golden" --phases "$out/bug/modelphases" >/dev/null 2>&1 || by="$by golden"
+    case $1 in modelphases.c)
+        "$out/faults" --judge "$out/modeljudge" --phases "$out/bug/modelphases" --megabytes 1 \
+            --quick >/dev/null 2>&1 || by="$by faults" ;;
+    esac
+}
+
+by_others() { # file
     "$out/outside" --judge "$out/bug/modeljudge" --calls "$out/bug/modelcalls" --count "$count" \
         --seed 1 --first $([ -z "$SHOW" ] && echo --unshrunk) >"$out/found" 2>&1 || by=outside
     "$out/golden" --judge "$out/bug/modeljudge" --calls "$out/bug/modelcalls" >/dev/null 2>&1 ||
@@ -44,6 +55,16 @@ one() { # file, old, new, what
         "$out/faults" --judge "$out/bug/modeljudge" --megabytes 1 >/dev/null 2>&1 ||
             by="$by faults"
         "$out/limits" --judge "$out/bug/modeljudge" >/dev/null 2>&1 || by="$by limits" ;;
+    esac
+}
+
+one() { # file, old, new, what
+    plant "$1" "$2" "$3"
+    planted=$((planted + 1))
+    by=
+    case $1 in
+    marks.c | modelphases.c) by_phases "$1" ;;
+    *) by_others "$1" ;;
     esac
     if [ -n "$by" ]; then
         caught=$((caught + 1))
@@ -59,7 +80,7 @@ while IFS= read -r file; do
     IFS= read -r old
     IFS= read -r new
     IFS= read -r what
-    case $what in *"$ONLY"*) one "$file" "$old" "$new" "$what" ;; esac
+    case "$file $what" in *"$ONLY"*) one "$file" "$old" "$new" "$what" ;; esac
 done <"$here/planted.txt"
 echo "planted: $caught of $planted caught"
 [ "$caught" = "$planted" ]
