@@ -125,10 +125,10 @@ run_over() { # NAME WORDS..
     trap - HUP INT QUIT TERM
 }
 
-# Passes on what the program said, and exits by the line that has the verdict: a Rattle program has no exit status of its own.
-tell() { # LINE
-    case $1 in
-    conforming) status=0 ;;
+# Passes on what the program said, and exits by its last line, the verdict: a Rattle program has no exit status of its own.
+tell() { # the verdict that is good
+    case $(tail -n 1 "$room/said") in
+    "$1") status=0 ;;
     'breach rule '*) status=1 ;;
     'refused '*) status=2 ;;
     *) status=3 ;;

@@ -8,7 +8,7 @@ made_up() {
     mkdir -p "$tree/crates/low" "$kit/bin" "$library"
     cp -R "$spur" "$root/command" "$tree"
     printf '%s\n' '# NAME: what it stands on' 'low:' 'high: low' 'beside: low' 'apart: low' 'spurjudge: high beside low io' \
-        >"$tree/crates.txt"
+        'spurphases: high low io' >"$tree/crates.txt"
     cat >"$kit/bin/rt" <<'RT'
 #!/bin/sh
 case $1 in
@@ -23,7 +23,7 @@ check)
         echo "rt: $crate proved"
     done
     mkdir -p target/bin
-    [ "$crate" != spurjudge ] || [ -f target/bin/spurjudge ] || cp "$KIT/program" target/bin/spurjudge
+    case $crate in spur*) [ -f "target/bin/$crate" ] || cp "$KIT/program" "target/bin/$crate" ;; esac
     ;;
 esac
 RT
@@ -37,6 +37,9 @@ RT
 # The command of the made-up checkout.
 there() { # VARIABLE=VALUE..
     env PATH="$kit/bin:$PATH" KIT="$kit" "$@" "$tree/spur" judge "$boot"
+}
+there_phases() { # WORDS..
+    env PATH="$kit/bin:$PATH" KIT="$kit" SAYS="$says" "$tree/spur" phases "$@"
 }
 missing() { env PATH="$kit/bin:$PATH" KIT="$kit" "$tree/spur" judge "$work/none.rec"; }
 
@@ -56,6 +59,24 @@ spur: proving spurjudge'
     expect 'it is tried again' 0 'conforming' "$proofs" there SAYS='conforming\n'
 }
 
+# The same of the boot report: usage and a missing file are told before anything is built.
+building_phases() {
+    says='records 0\ncomplete\n'
+    expect 'a boot report: a word that is no mark is told before anything is built' 3 '' 'spur: x is no mark*' there_phases "$boot" x
+    expect 'a boot report: and a missing file' 3 '' "spur: * isn't there" there_phases "$work/none.rec" 1/1
+    expect 'a boot report: first use' 0 'records 0
+complete' 'spur: building spurphases, with its proofs
+spur: proving low
+spur: proving high
+spur: proving spurphases' there_phases "$boot" 1/1
+    expect 'a boot report: second use' 0 'records 0
+complete' '' there_phases "$boot" 1/1
+    says='conforming\n'
+    expect 'the verdict conforming isn'"'"'t the boot report'"'"'s' 3 'conforming' 'spur: *verdict*' there_phases "$boot" 1/1
+    says='complete \n'
+    expect 'nearly a boot report'"'"'s verdict' 3 'complete ' 'spur: *verdict*' there_phases "$boot" 1/1
+}
+
 # A file on a terminal, of which the first 8,192 bytes are gone when the command begins; the program reads 16,384 and pauses.
 file_on_terminal() {
     # shellcheck disable=SC2016
@@ -70,6 +91,7 @@ file_on_terminal() {
 first_use() {
     made_up
     building
+    building_phases
     if [ -r /proc/self/fdinfo/0 ] && script -qec true /dev/null </dev/null >/dev/null 2>&1; then
         file_on_terminal
     else
