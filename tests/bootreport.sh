@@ -72,6 +72,34 @@ records 8
 refused 1' "$work/two-torn" 5/6 3/4
 }
 
+# The sample, its lines being those of samples/README.md.
+sample() {
+    six='mark 0 span 2482
+mark 1 span 4843 diff 2361
+mark 2 span 11580 diff 6737
+mark 3 span 13244 diff 1664
+mark 4 span 14019 diff 775
+mark 5 span 14550 diff 531'
+    reported 'the sample' 0 "$six
+records 2656
+complete" "$root/samples/phases.rec" 10/1 2/1 5/7 11/2 10/1 15/15
+    reported 'the sample, a mark more' 1 "$six
+records 2783
+breach rule 8 record 2783" "$root/samples/phases.rec" 10/1 2/1 5/7 11/2 10/1 15/15 1/5
+    reported 'the sample, two marks exchanged' 1 'mark 0 span 2482
+mark 1 span 4843 diff 2361
+mark 2 span 13244 diff 8401
+records 2783
+breach rule 8 record 2783' "$root/samples/phases.rec" 10/1 2/1 11/2 5/7
+    reported 'the sample, limit 4' 1 'mark 0 span 2482
+mark 1 span 4843 diff 2361
+mark 2 span 11580 diff 6737
+mark 3 span 13244 diff 1664
+records 2241
+breach rule 11 record 2241' --limit 4 "$root/samples/phases.rec" 10/1 2/1 5/7 11/2 10/1 15/15
+    judged 'the sample of the boot report, judged' 1 "$breaks" "$root/samples/phases.rec"
+}
+
 # 30 marks.
 thirty='3/4 3/4 3/4 3/4 3/4 3/4 3/4 3/4 3/4 3/4'
 thirty="$thirty $thirty $thirty"
@@ -179,6 +207,7 @@ inputs_and_outputs() {
 
 boot_report() {
     reports
+    sample
     refusals
     no_report
     inputs_and_outputs

@@ -2,6 +2,7 @@
 
    makerec boot RECORDS          a boot-like run that conforms
    makerec breach RECORDS RULE   the same, with a record two thirds on that breaks the rule
+   makerec phases RECORDS        a boot with marks (02, wish 1), and rule 8 broken behind them
    makerec sound RECORDS SEED    simulated traffic of any kind that conforms
    makerec wild RECORDS SEED     whatever conforms
    makerec damage RULE SEED      a recording whose first breach is of the rule */
@@ -42,6 +43,54 @@ static int break_boot(struct maker *m, int rule)
     return 0;
 }
 
+/* The writes of a boot that are to be marks, each in the place of the first word transfer from a
+   part of the recording on, in 4,096ths. */
+static const struct {
+    size_t from;
+    unsigned slot, number;
+    uint32_t folded; /* AD19 to AD6 */
+    int status;
+} writes[] = {
+    {220, 10, 1, 0, SUCCESS},   {400, 2, 1, 0, ERROR},     {430, 2, 1, 0x00055540, SUCCESS},
+    {1700, 11, 2, 0, SUCCESS},  {2300, 10, 1, 0, SUCCESS}, {2600, 15, 15, 0x000FFFC0, SUCCESS},
+};
+
+/* Makes the record at i a START of the write and the ACK behind it its end; 0 where it isn't a word
+   transfer, or one that doesn't end in success. Neither breaks a rule that wasn't broken. */
+static int put_write(struct maker *m, size_t i, size_t which)
+{
+    size_t records = m->out.len / RECORD, k = i + 1;
+    struct record r, end = {0};
+    record_read(&r, m->out.bytes + i * RECORD);
+    if (r.reset || !r.start || r.ack || r.tm0 || (r.ad & 3) != 0)
+        return 0;
+    while (k < records && !end.ack && !end.reset)
+        record_read(&end, m->out.bytes + k++ * RECORD);
+    if (end.reset || !end.ack || code_status(end.tm1, end.tm0) != SUCCESS)
+        return 0;
+    r.tm1 = 1;
+    r.ad = 0xF0000000u | writes[which].slot << 24 | writes[which].number << 2 | writes[which].folded;
+    r.sp = (uint8_t)(r.spv && code_parity(r.ad));
+    end.tm1 = (uint8_t)(writes[which].status >> 1);
+    end.tm0 = writes[which].status & 1;
+    record_write(&r, m->out.bytes + i * RECORD);
+    record_write(&end, m->out.bytes + (k - 1) * RECORD);
+    return 1;
+}
+
+static int put_writes(struct maker *m)
+{
+    size_t records = m->out.len / RECORD;
+    for (size_t n = 0; n < sizeof writes / sizeof writes[0]; n++) {
+        size_t i = writes[n].from * records / 4096;
+        while (i < records && !put_write(m, i, n))
+            i++;
+        if (i == records)
+            return 0;
+    }
+    return 1;
+}
+
 int main(int argc, char **argv)
 {
     struct rng g = {19861023};
@@ -58,6 +107,12 @@ int main(int argc, char **argv)
             fprintf(stderr, "that rule could not be broken there\n");
             return 2;
         }
+    } else if (strcmp(what, "phases") == 0) {
+        traffic_boot(&m, a);
+        if (!put_writes(&m) || !break_boot(&m, 8)) {
+            fprintf(stderr, "that boot is too short\n");
+            return 2;
+        }
     } else if (strcmp(what, "sound") == 0) {
         g.state = b;
         traffic_bus(&m, a);
@@ -68,8 +123,8 @@ int main(int argc, char **argv)
         g.state = b;
         damage(&m, (int)a);
     } else {
-        fprintf(stderr, "makerec boot RECORDS | breach RECORDS RULE | sound RECORDS SEED | "
-                        "wild RECORDS SEED | damage RULE SEED\n");
+        fprintf(stderr, "makerec boot RECORDS | breach RECORDS RULE | phases RECORDS | "
+                        "sound RECORDS SEED | wild RECORDS SEED | damage RULE SEED\n");
         return 2;
     }
     if (fwrite(m.out.bytes, 1, m.out.len, stdout) != m.out.len || fflush(stdout) != 0) {
