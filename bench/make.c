@@ -1,13 +1,18 @@
 /* Makes a conforming recording with realistic traffic, the same each time:
 
-   make MEBIBYTES [FILE]
+   make MEBIBYTES [FILE [absent | near]]
 
    Waves of a few masters, single transfers and blocks with strobes, some holding, parking and
    attention cycles, slow slaves, a rare timeout and RESET, parity on half the transfers, inter-
-   cache traffic beside. Cycles without any active line are left out. */
+   cache traffic beside. Cycles without any active line are left out.
+
+   For the boot report's mark 0/0, a word write to F00xxxxx with AD5 to AD2 inactive: absent has no
+   transfer to slot 0 at all; near has every transfer there, and each word write ends in an error.
+   The records are the same otherwise. */
 #include <stdint.h>
 #include <stdio.h>
 #include <stdlib.h>
+#include <string.h>
 
 #define RESET 0x80000000u
 #define RQST 0x40000000u
@@ -21,6 +26,7 @@
 static uint64_t seed = 1986, left;
 static uint32_t stamp;
 static FILE *out;
+static enum { ANY_ADDRESS, MARK_ABSENT, MARK_NEAR } kind_of_addresses;
 
 static uint32_t below(uint32_t n)
 {
@@ -61,12 +67,23 @@ static void idle(uint32_t rqst, uint32_t arb, uint32_t cycles)
         cycle(rqst, rqst ? arb : 0, 0, 0);
 }
 
+/* The address as it is to be for the mark 0/0; only the low bits make a transfer's unit. */
+static uint32_t addressed(uint32_t address)
+{
+    if (kind_of_addresses == MARK_NEAR)
+        return address & 0xF00FFFC0;
+    if (kind_of_addresses == MARK_ABSENT && (address & 0x0F000000) == 0)
+        return address | 0x08000000;
+    return address;
+}
+
 /* A START and what follows it up to its ACK; next is the ARB of the contest that goes on then. */
 static void transfer(uint32_t rqst, uint32_t arb, uint32_t next)
 {
     static const uint32_t marks[] = {0x02, 0x06, 0x0E, 0x1E}, words[] = {2, 4, 8, 16};
-    uint32_t address = 0xF0000000 + (below(1u << 26) << 2), kind = below(100), parity = below(2);
-    uint32_t write = below(3) == 0 ? TM1 : 0, strobes = 0, begin = stamp;
+    uint32_t address = addressed(0xF0000000 + (below(1u << 26) << 2));
+    uint32_t kind = below(100), parity = below(2);
+    uint32_t write = below(3) == 0 ? TM1 : 0, strobes = 0, begin = stamp, data, status;
     if (kind < 2) {
         cycle(rqst | START | ACK | TM1 | TM0, arb, 0, 0);
         idle(rqst, next, 2);
@@ -95,8 +112,11 @@ static void transfer(uint32_t rqst, uint32_t arb, uint32_t next)
         if (below(4) == 0)
             idle(rqst, next, 1 + below(2));
     }
-    cycle(rqst | ACK | (below(300) == 0 ? TM1 : TM1 | TM0), rqst ? next : 0,
-          below(1u << 31), (int)parity);
+    data = below(1u << 31);
+    status = below(300) == 0 ? TM1 : TM1 | TM0;
+    if (kind_of_addresses == MARK_NEAR && kind < 40 && write)
+        status = TM1;
+    cycle(rqst | ACK | status, rqst ? next : 0, data, (int)parity);
     while (stamp - begin < 3)
         idle(rqst, next, 1);
 }
@@ -122,13 +142,25 @@ static void wave(void)
     }
 }
 
+static int read_words(int argc, char **argv)
+{
+    if (argc < 2 || argc > 4 || (left = strtoull(argv[1], NULL, 0) << 16) == 0)
+        return 0;
+    if (argc < 4)
+        return 1;
+    kind_of_addresses = strcmp(argv[3], "absent") == 0 ? MARK_ABSENT
+                        : strcmp(argv[3], "near") == 0 ? MARK_NEAR
+                                                       : ANY_ADDRESS;
+    return kind_of_addresses != ANY_ADDRESS;
+}
+
 int main(int argc, char **argv)
 {
-    if (argc < 2 || argc > 3 || (left = strtoull(argv[1], NULL, 0) << 16) == 0) {
-        fprintf(stderr, "make MEBIBYTES [FILE]\n");
+    if (!read_words(argc, argv)) {
+        fprintf(stderr, "make MEBIBYTES [FILE [absent | near]]\n");
         return 1;
     }
-    out = argc == 3 ? fopen(argv[2], "wb") : stdout;
+    out = argc >= 3 ? fopen(argv[2], "wb") : stdout;
     if (out == NULL) {
         perror(argv[2]);
         return 1;
@@ -145,7 +177,7 @@ int main(int argc, char **argv)
         if (below(100000) == 0)
             cycle(RESET, 0, 0, 0);
     }
-    if (fflush(out) != 0 || (argc == 3 && fclose(out) != 0)) {
+    if (fflush(out) != 0 || (argc >= 3 && fclose(out) != 0)) {
         perror("output");
         return 1;
     }
