@@ -51,6 +51,9 @@ static const struct {
     /* The number is in AD5 to AD2: 4 in AD9 to AD6 is F3000100, and that is number 0. */
     {"the number in AD6", "16 3/4", WAVE "2 S T dF3000100; 4 K T t", NONE_IN_4, 0},
     {"the number in AD6 is 0", "16 3/0", WAVE "2 S T dF3000100; 4 K T t", FOUND, 0},
+    /* 30h is AD5 and AD4, number 12. */
+    {"AD5 active", "16 3/4", WAVE "2 S T dF3000030; 4 K T t", NONE_IN_4, 0},
+    {"AD5 active, asked for 12", "16 3/12", WAVE "2 S T dF3000030; 4 K T t", FOUND, 0},
     {"AD19 to AD6 active", "16 3/4", WAVE "2 S T dF30FFFD0; 4 K T t", FOUND, 0},
     {"AD20 active", "16 3/4", WAVE "2 S T dF3100010; 4 K T t", NONE_IN_4, 0},
     {"AD23 active", "16 3/4", WAVE "2 S T dF3800010; 4 K T t", NONE_IN_4, 0},

@@ -274,6 +274,15 @@ void marked_boot(struct maker *m, const struct mark *marks, size_t count, size_t
     }
 }
 
+void marked_far(struct maker *m, unsigned records)
+{
+    reset(m, 0, 0, (struct code){0, 0, 0});
+    for (; records > 0; records--) {
+        struct record r = following(m, ((uint32_t)1 << 31) - 1);
+        add(m, &r);
+    }
+}
+
 void marked_open(struct maker *m, struct mark k)
 {
     if (!m->j.has_stamp)

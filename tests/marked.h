@@ -24,6 +24,8 @@ size_t marked_choose(struct rng *g, struct mark *marks);
    so many near ones before each. */
 void marked_boot(struct maker *m, const struct mark *marks, size_t count, size_t left_out,
                  unsigned crowd);
+/* So many records without lines, each as far from the one before as rule 2 allows. */
+void marked_far(struct maker *m, unsigned records);
 /* A mark's START at the end, its ACK not there yet. */
 void marked_open(struct maker *m, struct mark k);
 /* A next record that breaks a rule. */

@@ -270,6 +270,23 @@ static void over_reads(struct rng *g)
     }
 }
 
+/* 32 marks with up to 200 records between, each 2^31 cycles behind the one before: the lines become
+   long, spans having up to 14 digits. */
+static void far_apart(struct rng *g)
+{
+    for (int i = 0; i < (options.count + 9) / 10; i++) {
+        struct asked a;
+        struct maker m;
+        begin(g, &a, &m);
+        for (a.count = 0; a.count < MOST_MARKS; a.count++) {
+            a.marks[a.count] = a.marks[0];
+            marked_far(&m, 100 + rng_below(g, 100));
+            marked_boot(&m, &a.marks[a.count], 1, 1, 1);
+        }
+        one(g, &a, &m, "marks far apart");
+    }
+}
+
 /* Drips of each size: a read sees no more than one. */
 static void drips(struct rng *g)
 {
@@ -296,6 +313,7 @@ static void all_of(unsigned long with)
     cut(&g);
     behind(&g);
     over_reads(&g);
+    far_apart(&g);
     drips(&g);
 }
 
