@@ -3,3 +3,4 @@ pub mod Only
 pub mod Onward
 pub mod Reported
 pub mod Phasing
+pub mod Worked

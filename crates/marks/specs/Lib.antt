@@ -2,3 +2,4 @@ pub mod Marks
 pub mod Report
 pub mod State
 pub mod Pieces
+pub mod Cases
