@@ -224,8 +224,13 @@ module _ (limit : ℕ) (low : 1 ≤ limit) (high : limit ≤ 16) (m : Marks) (la
   brokenAt i = record { rule = judged i .rule; place = judged i .tally .records }
 
   -- i records are read, all keep the rules, and a mark is missing still
-  abbrev Looking : ℕ → Phases → Type 0
-  Looking i p = (p .marks ≡ m) × ((p .stream ≡ waitingAt i) × ((judged i .rule ≡ 0) × (SearchIs lines m i (p .search) × ((p .search .found < m .count) × (i ≤ mostRecords)))))
+  record Looking (i : ℕ) (p : Phases) : Type 0 where
+    marks : p .marks ≡ m
+    stream : p .stream ≡ waitingAt i
+    unbroken : judged i .rule ≡ 0
+    search : SearchIs lines m i (p .search)
+    lacking : p .search .found < m .count
+    within : i ≤ mostRecords
 
   -- nothing more is looked at, and the report is right
   abbrev Over : Phases → Type 0
@@ -236,22 +241,22 @@ module _ (limit : ℕ) (low : 1 ≤ limit) (high : limit ≤ 16) (m : Marks) (la
     b = sixteen bytes i
 
     abbrev now : Before limit (recordingIn bytes) i (judged i .judge) (judged i .tally)
-    now = before i (h .1 .1 .0)
+    now = before i (h .unbroken)
 
     size : length b ≡ 16
     size = length-take-le 16 (drop (i * 16) bytes) (let z = length-drop (i * 16) bytes in let y : 16 ≤ length (drop (i * 16) bytes) = omega arith in y)
 
     missing : allFound p ≡ false
-    missing = lacks (p .marks .count) (p .search .found) (let z : p .marks .count ≡ m .count = ap (λ (x : Marks). x .count) (h .0) in let y = h .1 .1 .1 .1 .0 in omega arith)
+    missing = lacks (p .marks .count) (p .search .found) (let z : p .marks .count ≡ m .count = ap (λ (x : Marks). x .count) (h .marks) in let y = h .lacking in omega arith)
 
     -- the judge's state behind the record
     fed : feedOf (p .stream) b ≡ goneOn (judged i .judge) (judged i .tally) b
-    fed = ap (λ (s : Stream). feedOf s b) (h .1 .0) ∙ feed-clean (waitingAt i) b refl refl
+    fed = ap (λ (s : Stream). feedOf s b) (h .stream) ∙ feed-clean (waitingAt i) b refl refl
 
     seen : (s : Stream) → goneOn (judged i .judge) (judged i .tally) b ≡ s → nextSeen p b ≡ sawOf p s (recordIn b)
     unfolding nextSeen underWay
     seen s e =
-        cond-true _ _ (both-and _ _ (ap (λ (x : Stream). goes (x .stop)) (h .1 .0)) (ap not missing)) ∙ ap (λ (x : Stream). sawOf p x (recordIn b)) (fed ∙ e)
+        cond-true _ _ (both-and _ _ (ap (λ (x : Stream). goes (x .stop)) (h .stream)) (ap not missing)) ∙ ap (λ (x : Stream). sawOf p x (recordIn b)) (fed ∙ e)
 
     seen-ended : (s : Stream) → goneOn (judged i .judge) (judged i .tally) b ≡ s → goes (s .stop) ≡ false → nextSeen p b ≡ withStream p s
     unfolding sawOf
@@ -265,12 +270,12 @@ module _ (limit : ℕ) (low : 1 ≤ limit) (high : limit ≤ 16) (m : Marks) (la
         let here = seen-ended (stateWith PastMost (judged i .judge) t []) (record-past (judged i .judge) t b size (now .totals .records ∙ e)) refl in
         subst Over (sym here) (
           refl,
-          report-right (withStream p (stateWith PastMost (judged i .judge) t [])) i TooMany (h .0) (judged-sound i (let z = now .totals .records in omega arith)) (omega arith) (h .1 .1 .1 .0) (let z = h .1 .1 .1 .1 .0 in omega arith)
-              (now .totals .records) (omega arith) (now .good) (cond-false _ _ missing) (h .1 .1 .1 .1 .0, not-yet lines m i (p .search) (h .1 .1 .1 .0), e, omega arith),
+          report-right (withStream p (stateWith PastMost (judged i .judge) t [])) i TooMany (h .marks) (judged-sound i (let z = now .totals .records in omega arith)) (omega arith) (h .search) (let z = h .lacking in omega arith)
+              (now .totals .records) (omega arith) (now .good) (cond-false _ _ missing) (h .lacking, not-yet lines m i (p .search) (h .search), e, omega arith),
         )
 
     next-judged : nextOf (from (judged i .judge) (judged i .tally)) (recordAt b) ≡ judged (suc i)
-    next-judged = ap (λ (x : Progress). nextOf x (recordAt b)) (sym (run-open (judged i) (h .1 .1 .0))) ∙ sym (run-last i (from (freshJudge limit) zeroTally) bytes)
+    next-judged = ap (λ (x : Progress). nextOf x (recordAt b)) (sym (run-open (judged i) (h .unbroken))) ∙ sym (run-last i (from (freshJudge limit) zeroTally) bytes)
 
     module _ (room : i < mostRecords) where
       gone : goneOn (judged i .judge) (judged i .tally) b ≡ stateAfter false (judged (suc i)) []
@@ -285,8 +290,8 @@ module _ (limit : ℕ) (low : 1 ≤ limit) (high : limit ≤ 16) (m : Marks) (la
           over records breaks =
               subst Over (sym (seen-ended (stateWith (Stopped (brokenAt (suc i))) (judged (suc i) .judge) (judged (suc i) .tally) []) (gone ∙ after-breach false (judged (suc i)) [] ne) refl)) (
                 refl,
-                report-right (withStream p (stateWith (Stopped (brokenAt (suc i))) (judged (suc i) .judge) (judged (suc i) .tally) [])) i (AtBreach (brokenAt (suc i))) (h .0) (judged-sound (suc i) (omega arith)) (omega arith) (h .1 .1 .1 .0) (let z = h .1 .1 .1 .1 .0 in omega arith)
-                    records (omega arith) (now .good) (cond-false _ _ missing) (h .1 .1 .1 .1 .0, not-yet lines m i (p .search) (h .1 .1 .1 .0), omega arith, records, breaks),
+                report-right (withStream p (stateWith (Stopped (brokenAt (suc i))) (judged (suc i) .judge) (judged (suc i) .tally) [])) i (AtBreach (brokenAt (suc i))) (h .marks) (judged-sound (suc i) (omega arith)) (omega arith) (h .search) (let z = h .lacking in omega arith)
+                    records (omega arith) (now .good) (cond-false _ _ missing) (h .lacking, not-yet lines m i (p .search) (h .search), omega arith, records, breaks),
               )
 
           go : Reached limit (recordingIn bytes) (suc i) (judged (suc i)) → Over (nextSeen p b)
@@ -310,10 +315,10 @@ module _ (limit : ℕ) (low : 1 ≤ limit) (high : limit ≤ 16) (m : Marks) (la
             let span : judged (suc i) .tally .span ≡ cycle lines i = before (suc i) e .totals .span ∙ sum-cycle lines i in
             seen (waitingAt (suc i)) (gone ∙ after-going (judged (suc i)) [] e)
             ∙ ap (λ (x : ℕ). record { stream = waitingAt (suc i); marks = p .marks; search = seenOf (markAt (p .marks) (p .search .found)) (p .search) (lines i) x }) span
-            ∙ ap (λ (x : Marks). record { stream = waitingAt (suc i); marks = p .marks; search = seenOf (markAt x (p .search .found)) (p .search) (lines i) (cycle lines i) }) (h .0)
+            ∙ ap (λ (x : Marks). record { stream = waitingAt (suc i); marks = p .marks; search = seenOf (markAt x (p .search .found)) (p .search) (lines i) (cycle lines i) }) (h .marks)
 
         searched : SearchIs lines m (suc i) (after .search)
-        searched = search-next lines m i (p .search) (h .1 .1 .1 .0) (let z = h .1 .1 .1 .1 .0 in let y = marks-few m lawful .1 in omega arith)
+        searched = search-next lines m i (p .search) (h .search) (let z = h .lacking in let y = marks-few m lawful .1 in omega arith)
 
         one-more : after .search .found ≤ p .search .found + 1
         one-more = seen-found (markAt m (p .search .found)) (p .search) (lines i) (cycle lines i)
@@ -321,40 +326,41 @@ module _ (limit : ℕ) (low : 1 ≤ limit) (high : limit ≤ 16) (m : Marks) (la
         -- the last mark's ACK is this record: it was not found before it
         complete : m .count ≤ after .search .found → Because limit m bytes (suc i) (after .search .found) Complete
         complete all =
-            let f = h .1 .1 .1 .1 .0 in
+            let f = h .lacking in
             let o = one-more in
             let x = searched .times (p .search .found) (omega arith) in
-            let here : x .ack ≡ i = below (x .ack) i (x .read) (λ less. absurd (not-yet lines m i (p .search) (h .1 .1 .1 .0) (x .start) (x .ack) (x .mark) less)) (λ q. q) in
+            let here : x .ack ≡ i = below (x .ack) i (x .read) (λ less. absurd (not-yet lines m i (p .search) (h .search) (x .start) (x .ack) (x .mark) less)) (λ q. q) in
             (omega arith, record { place = p .search .found; start = x .start; ack = x .ack; last = omega arith; mark = x .mark; here = omega arith })
 
         good : Looking (suc i) (nextSeen p b) ⊎ Over (nextSeen p b)
         unfolding underWay judgedIn
         good =
-            let count : p .marks .count ≡ m .count = ap (λ (x : Marks). x .count) (h .0) in
+            let count : p .marks .count ≡ m .count = ap (λ (x : Marks). x .count) (h .marks) in
             let o = one-more in
-            let f = h .1 .1 .1 .1 .0 in
+            let f = h .lacking in
             let k = before (suc i) e in
             by-test (leb (m .count) (after .search .found))
             (λ all. let le = leb-true (m .count) (after .search .found) all in
             let found : allFound after ≡ true = ap (λ (x : ℕ). leb x (after .search .found)) count ∙ all in
             inr (subst Over (sym next-is) (
               ap not found,
-              report-right after (suc i) Complete (h .0) (judged-sound (suc i) (let z = k .totals .records in omega arith)) (omega arith) searched (omega arith)
+              report-right after (suc i) Complete (h .marks) (judged-sound (suc i) (let z = k .totals .records in omega arith)) (omega arith) searched (omega arith)
                   (k .totals .records) (omega arith) (k .good) (cond-true _ _ found) (complete le),
             )))
             (λ some. let less = leb-false (m .count) (after .search .found) some in
-            inl (subst (Looking (suc i)) (sym next-is) (h .0, (refl, (e, (searched, (less, room)))))))
+            inl (subst (Looking (suc i)) (sym next-is) (record { marks = h .marks; stream = refl; unbroken = e; search = searched; lacking = less; within = room })))
 
       step-within : Looking (suc i) (nextSeen p b) ⊎ Over (nextSeen p b)
       step-within = by-test (eqb (judged (suc i) .rule) 0) (λ e. good (eqb-true _ 0 e)) (λ e. inr (breach (eqb-false _ 0 e)))
 
     step : Looking (suc i) (nextSeen p b) ⊎ Over (nextSeen p b)
-    step = by-test (ltb i mostRecords) (λ e. step-within (ltb-true i mostRecords e)) (λ e. inr (past (let z = ltb-false i mostRecords e in let y = h .1 .1 .1 .1 .1 in omega arith)))
+    step = by-test (ltb i mostRecords) (λ e. step-within (ltb-true i mostRecords e)) (λ e. inr (past (let z = ltb-false i mostRecords e in let y = h .within in omega arith)))
 
   -- ---- all records, and the rest
   fresh-looks : Looking 0 (freshPhases limit m)
   unfolding freshPhases freshStream
-  fresh-looks = (refl, (refl, (refl, (search-fresh lines m, (let z = marks-few m lawful .0 in let y : 0 < m .count = omega arith in y, omega arith)))))
+  fresh-looks =
+      record { marks = refl; stream = refl; unbroken = refl; search = search-fresh lines m; lacking = (let z = marks-few m lawful .0 in omega arith); within = omega arith }
 
   stands : (i : ℕ) → i ≤ wholeIn bytes → Looking i (walked i (freshPhases limit m) bytes) ⊎ Over (walked i (freshPhases limit m) bytes)
   stands zero le = inl fresh-looks
@@ -399,22 +405,22 @@ module _ (limit : ℕ) (low : 1 ≤ limit) (high : limit ≤ 16) (m : Marks) (la
     few = let c = length-drop (wholeIn bytes * 16) bytes in let z : length left < 16 = omega arith in z
 
     lack : allFound all-read ≡ false
-    lack = lacks (all-read .marks .count) (all-read .search .found) (let z : all-read .marks .count ≡ m .count = ap (λ (x : Marks). x .count) (h .0) in let y = h .1 .1 .1 .1 .0 in omega arith)
+    lack = lacks (all-read .marks .count) (all-read .search .found) (let z : all-read .marks .count ≡ m .count = ap (λ (x : Marks). x .count) (h .marks) in let y = h .lacking in omega arith)
 
     waits-right : (phasesBounds waits ≡ true) × Right limit m bytes (reportOf waits)
     unfolding judgedIn
     waits-right =
         let n : ℕ = wholeIn bytes in
-        let now = before n (h .1 .1 .0) in
+        let now = before n (h .unbroken) in
         let c = length-drop (n * 16) bytes in
-        let w = h .1 .1 .1 .1 .1 in
+        let w = h .within in
         let sound = judged-sound n (let z = now .totals .records in omega arith) in
-        let notyet = not-yet lines m n (all-read .search) (h .1 .1 .1 .0) in
-        let lt = h .1 .1 .1 .1 .0 in
+        let notyet = not-yet lines m n (all-read .search) (h .search) in
+        let lt = h .lacking in
         by-test (eqb (length left) 0)
-        (λ e. report-right waits n (Absent (all-read .search .found)) (h .0) sound few (h .1 .1 .1 .0) (omega arith) (now .totals .records) (omega arith) (now .good)
+        (λ e. report-right waits n (Absent (all-read .search .found)) (h .marks) sound few (h .search) (omega arith) (now .totals .records) (omega arith) (now .good)
         (cond-false _ _ lack ∙ ap (lacking (all-read .search .found)) (cond-true _ _ e)) (lt, notyet, refl, (let z = eqb-true (length left) 0 e in omega arith), refl))
-        (λ e. report-right waits n Torn (h .0) sound few (h .1 .1 .1 .0) (omega arith) (now .totals .records) (omega arith) (now .good)
+        (λ e. report-right waits n Torn (h .marks) sound few (h .search) (omega arith) (now .totals .records) (omega arith) (now .good)
         (cond-false _ _ lack ∙ ap (lacking (all-read .search .found)) (cond-false _ _ e)) (lt, notyet, refl, (λ z. eqb-false (length left) 0 e (omega arith))))
 
   -- WHAT IS FED IS WITHIN BOUNDS, AND ITS REPORT IS RIGHT
@@ -427,9 +433,9 @@ module _ (limit : ℕ) (low : 1 ≤ limit) (high : limit ≤ 16) (m : Marks) (la
 
       go : Looking (wholeIn bytes) all-read ⊎ Over all-read → (phasesBounds (fedPhases (freshPhases limit m) bytes) ≡ true) × Right limit m bytes (reportOf (fedPhases (freshPhases limit m) bytes))
       go (inl h) =
-          let on : underWay all-read ≡ true = both-and _ _ (ap (λ (x : Stream). goes (x .stop)) (h .1 .0)) (ap not (lack h)) in
+          let on : underWay all-read ≡ true = both-and _ _ (ap (λ (x : Stream). goes (x .stop)) (h .stream)) (ap not (lack h)) in
           let between = walked-between (wholeIn bytes) (freshPhases limit m) bytes (omega arith) begins-between in
           subst (λ q. (phasesBounds q ≡ true) × Right limit m bytes (reportOf q))
-          (sym (fed ∙ rest-is all-read left (few h) between on ∙ ap (λ (x : Stream). withStream all-read (stateWith Going (x .judge) (x .tally) left)) (h .1 .0)))
+          (sym (fed ∙ rest-is all-read left (few h) between on ∙ ap (λ (x : Stream). withStream all-read (stateWith Going (x .judge) (x .tally) left)) (h .stream)))
           (waits-right h)
       go (inr h) = subst (λ q. (phasesBounds q ≡ true) × Right limit m bytes (reportOf q)) (sym (fed ∙ cond-false _ _ (h .0))) (h .1)

@@ -36,7 +36,7 @@ use Rattle.marks.specs.Marks.{markAt, isStartOf}
 use Rattle.marks.specs.State.{waiting, acked, seenOf, allFound, underWay, withStream, sawOf, nextSeen, restKept, goneThrough, untorn, fedPhases}
 use Rattle.marks.proofs.Onward.{Clean, Sound, Between, feed-clean, gone-clean, gone-rest, going-is, clean-held, walked, next-over, through-more, next-between, walked-between, rest-none, fed-over, more, fed-fits, fed-whole}
 use Rattle.marks.proofs.Reported.{walked-last}
-use Rattle.phases.specs.Parts.{Fit, Dull, isWaiting, matters, Reaches}
+use Rattle.phases.specs.Parts.{Fit, Dull, isWaiting, matters, mattersTo, Reaches}
 use Rattle.phases.proofs.Looks.{lines-at}
 
 -- ---- the judge's state
@@ -114,7 +114,7 @@ module _ (p : Phases) (b : Between p) (missing : allFound p ≡ false) (bytes : 
       ∙ sym (ap (λ (s : Stream). sawOf p s (recordIn (sixteen bytes k))) same ∙ cond-false _ _ g))
 
   -- not seen, where it does not matter
-  next-dull : (k : ℕ) → matters (markAt (p .marks) (p .search .found)) (isWaiting (p .search .pending)) (recordingIn bytes .lines k) ≡ false → nextSeen (withStream p (behind k)) (sixteen bytes k) ≡ withStream p (behind (suc k))
+  next-dull : (k : ℕ) → mattersTo p (recordingIn bytes .lines k) ≡ false → nextSeen (withStream p (behind k)) (sixteen bytes k) ≡ withStream p (behind (suc k))
   unfolding sawOf
   next-dull k dull =
       next-saw k
@@ -122,7 +122,7 @@ module _ (p : Phases) (b : Between p) (missing : allFound p ≡ false) (bytes : 
       (λ _. ap (λ (s : Search). record { stream = behind (suc k); marks = p .marks; search = s }) (dull-same (markAt (p .marks) (p .search .found)) (p .search) (recordIn (sixteen bytes k)) (behind (suc k) .tally .span) dull))
       (λ _. refl)
 
-  pub dull-walk : (k : ℕ) → ((i : ℕ) → i < k → matters (markAt (p .marks) (p .search .found)) (isWaiting (p .search .pending)) (recordingIn bytes .lines i) ≡ false) → walked k p bytes ≡ withStream p (behind k)
+  pub dull-walk : (k : ℕ) → ((i : ℕ) → i < k → mattersTo p (recordingIn bytes .lines i) ≡ false) → walked k p bytes ≡ withStream p (behind k)
   dull-walk zero dull = ap (withStream p) (sym (feed-none (p .stream) (b .clean) (b .sound)))
   dull-walk (suc k) dull =
       walked-last k p bytes
@@ -130,7 +130,7 @@ module _ (p : Phases) (b : Between p) (missing : allFound p ≡ false) (bytes : 
       ∙ next-dull k (dull k (omega arith))
 
   -- the last of k + 1 records is seen
-  last-saw : (k : ℕ) → length bytes ≡ suc k * 16 → ((i : ℕ) → i < k → matters (markAt (p .marks) (p .search .found)) (isWaiting (p .search .pending)) (recordingIn bytes .lines i) ≡ false)
+  last-saw : (k : ℕ) → length bytes ≡ suc k * 16 → ((i : ℕ) → i < k → mattersTo p (recordingIn bytes .lines i) ≡ false)
       → goneThrough (suc k) p bytes ≡ sawOf p (feedOf (p .stream) bytes) (recordIn (sixteen bytes k))
   last-saw k size dull =
       let none : drop (suc k * 16) bytes ≡ [] = drop-of-length-le bytes (let z : length bytes ≤ suc k * 16 = omega arith in z) in
@@ -144,7 +144,7 @@ module _ (p : Phases) (b : Between p) (missing : allFound p ≡ false) (bytes : 
       ∙ ap (λ (l : List ℕ). sawOf p (feedOf (p .stream) l) (recordIn (sixteen bytes k))) (take-all (suc k * 16) bytes (omega arith))
 
   -- no record is seen
-  none-saw : ((i : ℕ) → i < wholeIn bytes → matters (markAt (p .marks) (p .search .found)) (isWaiting (p .search .pending)) (recordingIn bytes .lines i) ≡ false)
+  none-saw : ((i : ℕ) → i < wholeIn bytes → mattersTo p (recordingIn bytes .lines i) ≡ false)
       → goneThrough (wholeIn bytes) p bytes ≡ withStream p (feedOf (p .stream) bytes)
   unfolding restKept underWay
   none-saw dull =
@@ -201,7 +201,7 @@ module _ (p : Phases) (fit : Fit p) (on : underWay p ≡ true) where
 
   -- k + 1 records, of which the last is seen
   seen-last : (x : List ℕ) (k : ℕ) → length (tornOf s ++ x) ≡ suc k * 16
-      → ((i : ℕ) → i < k → matters (markAt (p .marks) (p .search .found)) (isWaiting (p .search .pending)) (recordingIn (tornOf s ++ x) .lines i) ≡ false)
+      → ((i : ℕ) → i < k → mattersTo p (recordingIn (tornOf s ++ x) .lines i) ≡ false)
       → fedPhases p x ≡ sawOf p (feedOf s x) (recordIn (sixteen (tornOf s ++ x) k))
   unfolding sawOf
   seen-last x k size dull =
@@ -212,7 +212,7 @@ module _ (p : Phases) (fit : Fit p) (on : underWay p ≡ true) where
 
   -- none is seen
   seen-none : (x : List ℕ)
-      → ((i : ℕ) → i < wholeIn (tornOf s ++ x) → matters (markAt (p .marks) (p .search .found)) (isWaiting (p .search .pending)) (recordingIn (tornOf s ++ x) .lines i) ≡ false)
+      → ((i : ℕ) → i < wholeIn (tornOf s ++ x) → mattersTo p (recordingIn (tornOf s ++ x) .lines i) ≡ false)
       → fedPhases p x ≡ withStream p (feedOf s x)
   seen-none x dull = fed-is x ∙ none-saw (untorn p) between missing (tornOf s ++ x) dull ∙ ap (withStream p) (fed-untorn x)
 
@@ -232,12 +232,12 @@ module _ (p : Phases) (fit : Fit p) (on : underWay p ≡ true) where
         xe
         ∙ ap (λ (y : Stream). sawOf p y r) ne
         ∙ ap (sawOf p (feedOf s part)) (last ∙ ap (λ (l : List ℕ). recordIn (sixteen l k)) (sym nothing-torn))
-        ∙ sym (seen-last part k (ap length nothing-torn ∙ size) (λ i lt. ap (λ (l : List ℕ). matters (markAt (p .marks) (p .search .found)) (isWaiting (p .search .pending)) (recordingIn l .lines i)) nothing-torn ∙ dull i (omega arith)))
+        ∙ sym (seen-last part k (ap length nothing-torn ∙ size) (λ i lt. ap (λ (l : List ℕ). mattersTo p (recordingIn l .lines i)) nothing-torn ∙ dull i (omega arith)))
 
     pub advanced-rest : (next : Stream) (x : Phases) → (eqb (length part % 16) 0 && leb 16 (length part)) ≡ false → next ≡ feedOf s part → x ≡ withStream p next → x ≡ fedPhases p part
     advanced-rest next x odd ne xe =
         xe ∙ ap (withStream p) ne
-        ∙ sym (seen-none part (λ i lt. ap (λ (l : List ℕ). matters (markAt (p .marks) (p .search .found)) (isWaiting (p .search .pending)) (recordingIn l .lines i)) nothing-torn
+        ∙ sym (seen-none part (λ i lt. ap (λ (l : List ℕ). mattersTo p (recordingIn l .lines i)) nothing-torn
         ∙ dull i (behind-it i (subst (λ (l : List ℕ). i < wholeIn l) nothing-torn lt) odd)))
       where
         behind-it : (i : ℕ) → i < length part / 16 → (eqb (length part % 16) 0 && leb 16 (length part)) ≡ false → suc i * 16 < length part
@@ -390,7 +390,7 @@ module _ (p : Phases) (piece : List ℕ) (from : ℕ) where
     pub part-dull : Dull state part
     part-dull i less =
         let z = part-size in
-        ap (λ (l : List ℕ). matters (markAt (state .marks) (state .search .found)) (isWaiting (state .search .pending)) (recordIn l)) (sixteen-front (drop at piece) size i (omega arith))
+        ap (λ (l : List ℕ). mattersTo state (recordIn l)) (sixteen-front (drop at piece) size i (omega arith))
         ∙ reach .dull i (omega arith)
 
     pub through-next : (x : Phases) → x ≡ fedPhases state part → Through x (at + size)

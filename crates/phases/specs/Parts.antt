@@ -35,6 +35,10 @@ pub record Reaches (mark : Mark) (waits : Bool) (bytes : List ℕ) (n : ℕ) : T
   pub dull : (i : ℕ) → suc i * 16 < n → matters mark waits (recordingIn bytes .lines i) ≡ false
   pub ends : (n % 16 ≡ 0) ⊎ (n ≡ length bytes)
 
+-- the same of the mark that a state looks for
+abbrev pub mattersTo : Phases → Record → Bool
+mattersTo p r = matters (markAt (p .marks) (p .search .found)) (isWaiting (p .search .pending)) r
+
 -- of the whole records of a part none matters to the search but the last that ends it
 abbrev pub Dull : Phases → List ℕ → Type 0
-Dull p part = (i : ℕ) → suc i * 16 < length part → matters (markAt (p .marks) (p .search .found)) (isWaiting (p .search .pending)) (recordingIn part .lines i) ≡ false
+Dull p part = (i : ℕ) → suc i * 16 < length part → mattersTo p (recordingIn part .lines i) ≡ false
