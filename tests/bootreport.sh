@@ -140,13 +140,14 @@ refused 10 place 1' "$work/two" $thirty 3/4 3/4
     for mark in 16/0 0/16 256/0 0/99999999999999999999; do
         reported "$mark" 2 'refused 2' "$work/two" 3/4 "$mark"
     done
+    # without FILE it is standard input, and there are no marks
+    reported 'no words' 2 'refused 9'
+    reported 'a limit alone' 2 'refused 9' --limit 4
     reported 'no marks, limit 0' 2 'refused 9' --limit 0 "$work/two"
     reported 'slot 16, limit 0' 2 'refused 2' --limit 0 "$work/two" 16/0
 }
 
 no_report() {
-    unreported 'no recording' 'spur: *./spur phases*'
-    unreported 'a limit and no recording' 'spur: *./spur phases*' --limit 4
     for mark in '' x 3 3/ /4 / 3/4/5 3//4 3:4 -3/4 3/-4 +3/4 3/+4 0x3/4 3/4x ' 3/4' '3/4 ' '3 /4' '3/4 5/6' 3.0/4 '*' '?/4' '3/4
 5/6' --limit; do
         unreported "'$mark' in place of a mark" 'spur: *no mark*' "$work/two" "$mark"
