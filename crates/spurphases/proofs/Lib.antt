@@ -1,0 +1,4 @@
+pub mod Wording
+pub mod Examples
+pub mod Reading
+pub mod Printing
