@@ -1,17 +1,15 @@
 -- A mark is at one place at most, and of an input one report at most is right. Assumes nothing.
-use Prim.Native.Nat.{ℕ, zero, suc, _+_, _%_, _≤_, _<_}
+use Prim.Native.Nat.{ℕ, suc, _≤_, _<_}
 use mathlib.Core.List.{List}
 use mathlib.Core.Path.{_≡_, refl, sym, ap, subst, _∙_}
 use mathlib.Core.Logic.{_⊎_, inl, inr}
 use native.Mathlib.Omega.{arith}
-use lib.ListN.{length, getD}
 use lib.Seq.{ext-getD}
 use lib.Dec.{ltb}
 use borrow.Author.Tests.{ltb-true, ltb-false}
 use Rattle.basics.proofs.Bools.{by-test}
-use Rattle.rules.specs.declared.Broken.{Broken}
-use Rattle.rules.specs.Recording.{Lines, Recording, recordingIn, cycle}
-use Rattle.rules.specs.Thirteen.{rules, Breaks}
+use Rattle.rules.specs.Recording.{Lines, recordingIn, cycle}
+use Rattle.rules.specs.Thirteen.{rules}
 use Rattle.rules.proofs.Places.{below, same-place, clash}
 use Rattle.rules.proofs.Exactly.{kept-not, first-only}
 use Rattle.feeding.specs.Input.{judgedIn}
@@ -21,7 +19,7 @@ use Rattle.marks.specs.declared.Report.{Report}
 use Rattle.marks.specs.declared.Why.{Why}
 use Rattle.marks.specs.declared.Why.the-variants.{Complete, AtBreach, Torn, TooMany, Absent, OutOfBounds}
 use Rattle.marks.specs.Marks.{markAt, Written, FirstWrite, MarkAt, first, next}
-use Rattle.marks.specs.Report.{diffsOf, FoundAt, NotYet, LastAck, Because, Right}
+use Rattle.marks.specs.Report.{diffsOf, NotYet, LastAck, Because, Right}
 
 -- ---- places
 written-once : (r : Lines) (m : Mark) (k i j : ℕ) → Written r m k i → Written r m k j → i ≡ j

@@ -1,10 +1,10 @@
 -- A piece after a piece is as both at once. Assumes nothing.
-use Prim.Native.Nat.{ℕ, zero, suc, _+_, _-_, _*_, _/_, _%_, _≤_, _<_}
-use mathlib.Core.Bool.{Bool, true, false, not, cond, _&&_, false≢true}
+use Prim.Native.Nat.{ℕ, zero, suc, _+_, _-_, _*_, _%_, _≤_, _<_}
+use mathlib.Core.Bool.{Bool, true, false, not, _&&_, false≢true}
 use mathlib.Core.List.{List, [], _++_, append-assoc}
 use mathlib.Core.Path.{_≡_, refl, sym, ap, subst, _∙_}
 use native.Mathlib.Omega.{arith}
-use lib.ListN.{length, take, drop, replicate, length-append, length-drop, take-append-drop, drop-of-length-le}
+use lib.ListN.{length, take, drop, replicate, length-append, length-drop, drop-of-length-le}
 use lib.Seq.{length-take-le, drop-drop, drop-append-le, take-append-le, take-append-seam}
 use lib.Dec.{ltb}
 use borrow.Author.Tests.{le-ltb}

@@ -1,23 +1,22 @@
 -- The report of an input is right of its recording. Assumes nothing.
-use Prim.Native.Nat.{ℕ, zero, suc, _+_, _-_, _*_, _/_, _%_, _≤_, _<_}
-use mathlib.Core.Bool.{Bool, true, false, not, cond, _&&_, false≢true}
-use mathlib.Core.List.{List, [], _∷_, _++_}
+use Prim.Native.Nat.{ℕ, zero, suc, _+_, _*_, _≤_, _<_}
+use mathlib.Core.Bool.{Bool, true, false, not, cond, _&&_}
+use mathlib.Core.List.{List, []}
 use mathlib.Core.Path.{_≡_, refl, sym, ap, subst, _∙_}
 use mathlib.Core.Logic.{_⊎_, inl, inr}
 use native.Mathlib.Omega.{arith}
 use lib.ListN.{length, take, drop, getD, length-drop, drop-of-length-le}
 use lib.Seq.{length-take-le, drop-drop, take-all}
 use lib.Dec.{eqb, ltb, leb}
-use borrow.Author.Tests.{eqb-true, eqb-false, eq-eqb, ltb-true, ltb-false, lt-ltb, le-ltb, leb-true, leb-false, le-leb}
+use borrow.Author.Tests.{eqb-true, eqb-false, ltb-true, ltb-false, lt-ltb, le-ltb, leb-true, leb-false, le-leb}
 use Rattle.basics.proofs.Bools.{choice, by-test, cond-true, cond-false, not-true, and-both, both-and}
 use Rattle.record.specs.declared.Record.{Record}
 use Rattle.record.specs.Layout.{recordIn}
 use Rattle.rules.specs.declared.Judge.{Judge}
 use Rattle.rules.specs.declared.Tally.{Tally}
 use Rattle.rules.specs.declared.Progress.{Progress}
-use Rattle.rules.specs.declared.Verdict.{Verdict}
 use Rattle.rules.specs.declared.Broken.{Broken}
-use Rattle.rules.specs.Recording.{Lines, Recording, recordingIn, sixteen, gap, cycle}
+use Rattle.rules.specs.Recording.{Lines, recordingIn, sixteen, gap, cycle}
 use Rattle.rules.specs.Run.{takenIn as recordAt, from, nextOf, runOf, recordsIn}
 use Rattle.rules.specs.State.{isOpen, freshJudge, zeroTally}
 use Rattle.rules.specs.Thirteen.{rules, Keeps, Breaks}
@@ -33,7 +32,7 @@ use Rattle.feeding.specs.declared.Stop.the-variants.{Going, AtBreach as Stopped
 use Rattle.feeding.specs.declared.Stream.{Stream}
 use Rattle.feeding.specs.declared.Ending.{Ending}
 use Rattle.feeding.specs.Input.{wholeIn, judgedIn}
-use Rattle.feeding.specs.State.{goes, streamBounds, takenIn, keptOf, stateWith, stateAfter, goneOn, feedOf, lastVerdict, finishOf, freshStream}
+use Rattle.feeding.specs.State.{goes, streamBounds, takenIn, stateWith, stateAfter, goneOn, feedOf, lastVerdict, finishOf, freshStream}
 use Rattle.feeding.proofs.Bounds.{are-bounds}
 use Rattle.feeding.proofs.GoOn.{after-breach, after-past, after-going}
 use Rattle.marks.specs.declared.Mark.{Mark}
@@ -41,12 +40,11 @@ use Rattle.marks.specs.declared.Marks.{Marks}
 use Rattle.marks.specs.declared.Pending.{Pending}
 use Rattle.marks.specs.declared.Pending.the-variants.{Nothing, Since}
 use Rattle.marks.specs.declared.Phases.{Phases}
-use Rattle.marks.specs.declared.Report.{Report}
 use Rattle.marks.specs.declared.Search.{Search}
 use Rattle.marks.specs.declared.Why.{Why}
-use Rattle.marks.specs.declared.Why.the-variants.{Complete, AtBreach, Torn, TooMany, Absent, OutOfBounds}
+use Rattle.marks.specs.declared.Why.the-variants.{Complete, AtBreach, Torn, TooMany, Absent}
 use Rattle.marks.specs.Marks.{markAt, Written, MarkAt, first, next}
-use Rattle.marks.specs.Report.{FoundAt, NotYet, LastAck, Because, Right}
+use Rattle.marks.specs.Report.{FoundAt, NotYet, Because, Right}
 use Rattle.marks.specs.State.{someMarks, namedTo, lawfulMarks, acked, seenOf, allFound, underWay, risesTo, phasesBounds, withStream, sawOf, nextSeen, restKept, freshPhases, fedPhases, lacking, reportWith, reportOf}
 use Rattle.marks.proofs.Sought.{SearchIs, Behind, start, later, search-next, search-fresh}
 use Rattle.marks.proofs.Only.{mark-only, mark-earlier}

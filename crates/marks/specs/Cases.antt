@@ -1,6 +1,6 @@
 -- Worked cases, in pairs: a recording that has the mark by a hair, and a near twin that has not. Each is reported on as bytes, from the start.
-use Prim.Native.Nat.{ℕ, _+_, _*_}
-use mathlib.Core.Bool.{Bool, true, false}
+use Prim.Native.Nat.{ℕ, _+_}
+use mathlib.Core.Bool.{true, false}
 use mathlib.Core.List.{List, [], _∷_, _++_}
 use mathlib.Core.Path.{_≡_}
 use lib.ListN.{length, take, replicate}
@@ -8,7 +8,6 @@ use Rattle.record.specs.declared.Record.{Record}
 use Rattle.rules.specs.Cases.{cycleAt, idle, asks, reads, acks, fails, timesOut, strobes, resets, bytesOf}
 use Rattle.marks.specs.declared.Mark.{Mark}
 use Rattle.marks.specs.declared.Marks.{Marks}
-use Rattle.marks.specs.declared.Report.{Report}
 use Rattle.marks.specs.declared.Why.{Why}
 use Rattle.marks.specs.declared.Why.the-variants.{Complete, AtBreach, Torn, Absent}
 use Rattle.marks.specs.Pieces.{reportIn}

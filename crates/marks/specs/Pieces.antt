@@ -1,13 +1,13 @@
 -- An input in pieces of any length: what `finish` reports is right of the whole input's recording.
 use Prim.Native.Nat.{ℕ, zero, suc, _+_, _≤_, _<_}
-use mathlib.Core.Bool.{true, false}
+use mathlib.Core.Bool.{false}
 use mathlib.Core.List.{List, [], _∷_, _++_}
 use mathlib.Core.Path.{_≡_}
 use lib.ListN.{getD}
 use Rattle.rules.specs.Recording.{recordingIn, cycle}
 use Rattle.rules.specs.Exact.{joined}
 use Rattle.rules.specs.Thirteen.{Keeps}
-use Rattle.feeding.specs.Input.{wholeIn, judgedIn}
+use Rattle.feeding.specs.Input.{judgedIn}
 use Rattle.marks.specs.declared.Marks.{Marks}
 use Rattle.marks.specs.declared.Phases.{Phases}
 use Rattle.marks.specs.declared.Report.{Report}

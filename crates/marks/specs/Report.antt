@@ -1,13 +1,11 @@
 -- Document 02, wish 1: "The report gives the span at each mark and, from the second on, the difference to the one before. It stops at the ACK of the
 -- last mark ..; a breach after that point isn't reported, and the records read are given. Refusals: .. 10, a mark absent at a conforming end, with its
 -- place, last." Which report is right of an input, said of its recording.
-use Prim.Native.Nat.{ℕ, zero, suc, _+_, _-_, _%_, _≤_, _<_}
-use mathlib.Core.Bool.{cond}
+use Prim.Native.Nat.{ℕ, zero, suc, _-_, _%_, _≤_, _<_}
 use mathlib.Core.List.{List}
 use mathlib.Core.Path.{_≡_}
 use lib.ListN.{length, getD, set, replicate}
 use Rattle.basics.specs.Answers.{Answer, accepted, refused}
-use Rattle.rules.specs.declared.Broken.{Broken}
 use Rattle.rules.specs.Recording.{Lines, recordingIn, cycle}
 use Rattle.rules.specs.Thirteen.{Keeps, Breaks}
 use Rattle.rules.specs.Verdict.{mostRecords}
@@ -78,19 +76,19 @@ pub record Right (limit : ℕ) (m : Marks) (bytes : List ℕ) (e : Report) : Typ
   pub why : Because limit m bytes (e .records) (e .found) (e .why)
 
 -- ---- document 01's and 02's number and values for why a report ends
--- whether a rule is broken, which, and at which record; and the place of the mark that is absent
+-- the rule that is broken and the record that breaks it; the place of the mark that is absent
 pub record Reason : Type 0 where
   pub rule : ℕ
-  pub record′ : ℕ
-  pub place : ℕ
+  pub broken : ℕ
+  pub absent : ℕ
 
 abbrev pub noReason : Reason
-noReason = record { rule = 0; record′ = 0; place = 0 }
+noReason = record { rule = 0; broken = 0; absent = 0 }
 
 abbrev pub whyAnswer : Why → Answer Reason
 whyAnswer Complete = accepted noReason
-whyAnswer (AtBreach b) = accepted (record { rule = b .rule; record′ = b .place; place = 0 })
+whyAnswer (AtBreach b) = accepted (record { rule = b .rule; broken = b .place; absent = 0 })
 whyAnswer Torn = refused 1 noReason
 whyAnswer TooMany = refused 8 noReason
-whyAnswer (Absent p) = refused 10 (record { rule = 0; record′ = 0; place = p })
+whyAnswer (Absent p) = refused 10 (record { rule = 0; broken = 0; absent = p })
 whyAnswer OutOfBounds = refused 5 noReason

@@ -1,6 +1,6 @@
 -- A search for marks that is fed an input in pieces: its state, its bounds for refusal 5, and what `fresh`, `feed` and `finish` answer.
 use Prim.Native.Nat.{ℕ, zero, suc, _+_}
-use mathlib.Core.Bool.{Bool, true, false, not, cond, _&&_}
+use mathlib.Core.Bool.{Bool, true, not, cond, _&&_}
 use mathlib.Core.List.{List, [], _++_}
 use lib.ListN.{take, drop, getD, set, replicate}
 use lib.Dec.{eqb, leb}
@@ -11,7 +11,6 @@ use Rattle.record.specs.Layout.{recordIn}
 use Rattle.rules.specs.declared.Verdict.{Verdict}
 use Rattle.rules.specs.declared.Verdict.the-variants.{Conforming, Breach, OutOfBounds as OutOf, TooMany as Many, Torn as TornEnd}
 use Rattle.feeding.specs.declared.Stream.{Stream}
-use Rattle.feeding.specs.declared.Stop.the-variants.{Going}
 use Rattle.feeding.specs.declared.Ending.{Ending}
 use Rattle.feeding.specs.Input.{wholeIn}
 use Rattle.feeding.specs.State.{goes, tornOf, streamBounds, stateWith, freshStream, noStream, feedOf, finishOf}
@@ -38,10 +37,10 @@ abbrev pub namedTo : Marks → ℕ → Bool
 namedTo m zero = true
 namedTo m (suc n) = namedTo m n && leb (markAt m n .slot) 15 && leb (markAt m n .number) 15
 
--- refusals: "9, no or too many marks, first of all"; 2, a mark's slot or number over 15; then as the judge's, "3: hold limit not 1 to 16"
 unfoldable pub lawfulMarks : Marks → Bool
 lawfulMarks m = someMarks m && namedTo m (m .count)
 
+-- refusals: "9, no or too many marks, first of all"; 2, a mark's slot or number over 15; then as the judge's, "3: hold limit not 1 to 16"
 unfoldable pub beginRefusal : ℕ → Marks → ℕ
 beginRefusal limit m = unless (someMarks m) 9 (unless (namedTo m (m .count)) 2 (unless (lawfulLimit limit) 3 0))
 

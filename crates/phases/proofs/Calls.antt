@@ -1,7 +1,7 @@
 -- What the functions on a state put together is what the definitions say. Assumes nothing.
 use Prim.Native.Nat.{ℕ, _≤_}
 use mathlib.Core.Bool.{Bool, true, false, not, cond, _&&_}
-use mathlib.Core.List.{List, [], _∷_, _++_}
+use mathlib.Core.List.{List}
 use mathlib.Core.Path.{_≡_, refl, sym, ap, subst, _∙_}
 use native.Mathlib.Omega.{arith}
 use lib.Dec.{eqb, leb}
@@ -14,7 +14,6 @@ use Rattle.rules.proofs.Laws.{unless-zero}
 use Rattle.rules.proofs.Places.{off-iff}
 use Rattle.record.specs.declared.Record.{Record}
 use Rattle.feeding.specs.declared.Stream.{Stream}
-use Rattle.feeding.specs.declared.Stop.{Stop}
 use Rattle.feeding.specs.declared.Fed.{Fed}
 use Rattle.feeding.specs.declared.Ending.{Ending}
 use Rattle.feeding.specs.State.{goes, streamBounds, noStream, freshOf, finishOf}

@@ -1,11 +1,11 @@
 -- What the functions on marks and records put together is what the definitions say. Assumes nothing.
 use Prim.Native.Nat.{ℕ, zero, suc, _+_, _-_, _*_, _/_, _%_, _≤_, _<_}
-use mathlib.Core.Bool.{Bool, true, false, not, cond, _&&_, _||_, false≢true}
+use mathlib.Core.Bool.{Bool, true, false, not, cond, _&&_, _||_}
 use mathlib.Core.List.{List}
 use mathlib.Core.Path.{_≡_, refl, sym, ap, subst, _∙_}
-use mathlib.Core.Logic.{_⊎_, inl, inr}
+use mathlib.Core.Logic.{inl, inr}
 use native.Mathlib.Omega.{arith}
-use lib.ListN.{length, take, drop, getD, set, replicate}
+use lib.ListN.{length, take, drop, getD, set}
 use lib.Dec.{eqb, leb}
 use borrow.Author.Tests.{leb-true}
 use Rattle.basics.proofs.Bools.{cond-true, cond-false, and-both}
@@ -17,7 +17,7 @@ use Rattle.codes.specs.declared.Decoded.the-variants.{Means, NoMeaning}
 use Rattle.codes.specs.Start.{decodeOf, decodedAnswer}
 use Rattle.rules.specs.Recording.{recordingIn}
 use Rattle.rules.specs.Run.{Taken}
-use Rattle.rules.proofs.Places.{below, clash}
+use Rattle.rules.proofs.Places.{below}
 use Rattle.judge.proofs.Runs.{record-of}
 use Rattle.marks.specs.declared.Mark.{Mark}
 use Rattle.marks.specs.declared.Marks.{Marks}
@@ -25,9 +25,9 @@ use Rattle.marks.specs.declared.Pending.{Pending}
 use Rattle.marks.specs.declared.Pending.the-variants.{Nothing, Since}
 use Rattle.marks.specs.declared.Search.{Search}
 use Rattle.marks.specs.Marks.{isWord, markAt, writesTo, isStartOf}
-use Rattle.marks.specs.Report.{diffAt, diffsOf}
+use Rattle.marks.specs.Report.{diffsOf}
 use Rattle.marks.specs.State.{namedTo, waiting, acked, seenOf, risesTo}
-use Rattle.phases.specs.Parts.{isWaiting, matters, Reaches}
+use Rattle.phases.specs.Parts.{matters, Reaches}
 
 -- ---- a mark's START
 pub writes-means : (m : Mark) (op : Operation) (d : Decoded) (word : Bool) → d ≡ Means op → word ≡ isWord (op .unit)

@@ -34,7 +34,7 @@ use Rattle.marks.specs.declared.Phases.{Phases}
 use Rattle.marks.specs.declared.Search.{Search}
 use Rattle.marks.specs.Marks.{markAt, isStartOf}
 use Rattle.marks.specs.State.{waiting, acked, seenOf, allFound, underWay, withStream, sawOf, nextSeen, restKept, goneThrough, untorn, fedPhases}
-use Rattle.marks.proofs.Onward.{Clean, Sound, Between, feed-clean, gone-clean, gone-rest, going-is, clean-held, walked, next-over, through-more, next-between, walked-between, rest-none, fed-over, more, fed-fits, fed-whole}
+use Rattle.marks.proofs.Onward.{Clean, Sound, Between, feed-clean, gone-rest, going-is, clean-held, walked, through-more, walked-between, rest-none, fed-over, more, fed-fits, fed-whole}
 use Rattle.marks.proofs.Reported.{walked-last}
 use Rattle.phases.specs.Parts.{Fit, Dull, isWaiting, matters, mattersTo, Reaches}
 use Rattle.phases.proofs.Looks.{lines-at}

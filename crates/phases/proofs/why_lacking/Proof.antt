@@ -1,6 +1,4 @@
 -- `phases::why_lacking` meets its contract. Assumes nothing.
-use mathlib.Core.Path.{sym, ap}
-use Rattle.marks.specs.State.{lacking}
 use borrow.Author.Needs.{needs}
 use Rattle.phases.proofs.why_lacking.Statement.{statement}
 use Rattle.phases.proofs.why_lacking.Tie as tie

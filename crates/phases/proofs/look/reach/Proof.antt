@@ -1,6 +1,6 @@
 -- `phases::look::reach` meets its contract: none of the first i records matters. Assumes nothing.
-use Prim.Native.Nat.{_+_, _-_, _*_, _/_, _≤_, _<_}
-use mathlib.Core.Path.{_≡_, subst, sym}
+use Prim.Native.Nat.{_-_, _/_, _≤_}
+use mathlib.Core.Path.{_≡_}
 use lib.ListN.{length}
 use native.Mathlib.Omega.{arith}
 use borrow.Author.Needs.{needs}
