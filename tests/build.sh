@@ -27,7 +27,7 @@ link golden goldenrules goldenphases $model $makers $running
 link modelphases marks $model
 link phases phasewords $marks $model $makers $running
 link selftest lookback selfmarks marksback $marks $model $makers
-link makerec $model $makers
+link makerec $marks $model $makers
 link makecalls $model $makers
 for p in judge make; do
     ${CC:-cc} -O3 -std=c11 -Wall -Wextra -Werror -o "$out/bench$p" "../bench/$p.c"

@@ -3,6 +3,9 @@
    makerec boot RECORDS          a boot-like run that conforms
    makerec breach RECORDS RULE   the same, with a record two thirds on that breaks the rule
    makerec phases RECORDS        a boot with marks (02, wish 1), and rule 8 broken behind them
+   makerec marked CROWD SEED S/N ..
+                                 the marks in order, before each up to CROWD that are nearly marks,
+                                 and behind the last one's ACK one record that breaks a rule
    makerec sound RECORDS SEED    simulated traffic of any kind that conforms
    makerec wild RECORDS SEED     whatever conforms
    makerec damage RULE SEED      a recording whose first breach is of the rule */
@@ -10,7 +13,7 @@
 #include <stdio.h>
 #include <stdlib.h>
 #include <string.h>
-#include "make.h"
+#include "marked.h"
 
 /* A boot with one record changed so that it breaks the rule, and no lower one. */
 static int break_boot(struct maker *m, int rule)
@@ -91,6 +94,21 @@ static int put_writes(struct maker *m)
     return 1;
 }
 
+/* Adds the marks that the words name; 0 where a word names none, or they are too many. */
+static int put_marks(struct maker *m, char **words, size_t count, unsigned crowd)
+{
+    struct mark marks[MOST_MARKS];
+    if (count > MOST_MARKS)
+        return 0;
+    for (size_t i = 0; i < count; i++)
+        if (sscanf(words[i], "%u/%u", &marks[i].slot, &marks[i].number) != 2 ||
+            marks[i].slot > 15 || marks[i].number > 15)
+            return 0;
+    marked_boot(m, marks, count, count, crowd);
+    marked_break(m);
+    return 1;
+}
+
 int main(int argc, char **argv)
 {
     struct rng g = {19861023};
@@ -113,6 +131,12 @@ int main(int argc, char **argv)
             fprintf(stderr, "that boot is too short\n");
             return 2;
         }
+    } else if (strcmp(what, "marked") == 0 && argc > 4) {
+        g.state = b;
+        if (!put_marks(&m, argv + 4, (size_t)argc - 4, (unsigned)a)) {
+            fprintf(stderr, "up to 32 marks, slot/number, are to be named\n");
+            return 2;
+        }
     } else if (strcmp(what, "sound") == 0) {
         g.state = b;
         traffic_bus(&m, a);
@@ -124,7 +148,7 @@ int main(int argc, char **argv)
         damage(&m, (int)a);
     } else {
         fprintf(stderr, "makerec boot RECORDS | breach RECORDS RULE | phases RECORDS | "
-                        "sound RECORDS SEED | wild RECORDS SEED | damage RULE SEED\n");
+                        "marked CROWD SEED S/N .. | sound RECORDS SEED | wild RECORDS SEED | damage RULE SEED\n");
         return 2;
     }
     if (fwrite(m.out.bytes, 1, m.out.len, stdout) != m.out.len || fflush(stdout) != 0) {

@@ -3,7 +3,8 @@
 # aside, and counts those that show: tests/planted_library.sh [OUTDIR]
 # A program with no proof is never built to a file, so the copy is run from source by `rt try`, over
 # calls and recordings of the outside tests' makers, and what it writes is held to what the model
-# answers. A bug in what only spurjudge uses is looked for by spurjudge, any other by spurcalls.
+# answers. A bug in the boot report is looked for by spurphases, one in what only spurjudge uses
+# besides by spurjudge, any other by spurcalls.
 # LISTS is the number of long lists of 3,000 calls for each of five subjects (5), SEED is added to
 # the seeds (0), SHOW=1 shows what `rt try` said, ONLY is a piece of the description of those to be
 # planted.
@@ -37,8 +38,8 @@ for crate in "$here"/../crates/*/; do
     mkdir "$copy/crates/$(basename "$crate")"
     cp -R "$crate/src" "$copy/crates/$(basename "$crate")/src" || exit 2
 done
-# rt try gives no pipe: here the judging program takes 1,000 bytes at most in a read, which tears
-# records as a pipe does.
+# rt try gives no pipe: here the programs take 1,000 bytes at most in a read, which tears records as
+# a pipe does.
 edit reading/src/lib.rt 'libc::read(STDIN_FILENO, buffer)' \
     'libc::read(STDIN_FILENO, &mut buffer[..1000])'
 
@@ -57,14 +58,48 @@ done
 { "$out/makerec" wild 3000 $((seed + 2)) && printf torn; } >"$inputs/spurjudge.2" || exit 2
 "$out/makerec" breach 4000 3 >"$inputs/spurjudge.3" || exit 2
 
+# Boot reports, the program's words beside the recording: marks, before each up to sixty that are
+# nearly marks, and right behind the last one's ACK a breach; half of them asked for; that ACK
+# breaking a rule; with a mark asked for besides, the breach, a torn end or the end; the sample; and
+# words for which there are several refusals, or which are none.
+reports=0
+boot() { # words; the recording on standard input
+    reports=$((reports + 1))
+    cat >"$inputs/spurphases.$reports" || exit 2
+    printf '%s\n' "$@" >"$inputs/words.$reports" || exit 2
+}
+made() { # seed, bytes off the end, words
+    "$out/makerec" marked 60 $((seed + $1)) $marks >"$out/whole" || exit 2
+    head -c $(($(wc -c <"$out/whole") - $2)) "$out/whole" >"$out/made" || exit 2
+    shift 2
+    boot "$@" <"$out/made"
+}
+few="3/4 12/0 3/4 15/15 0/0 0/15 15/0 8/8 1/2 2/1 6/5 10/1 7/7 4/9 9/4 11/13"
+most="$few 13/11 14/3 5/6 3/4 0/8 8/0 2/10 10/2 15/15 1/14 14/1 0/3 3/0 6/6 12/12"
+marks="$most 9/10"
+made 1 0 16 $marks
+made 2 0 16 $few
+made 3 17 16 $marks
+printf x >>"$inputs/spurphases.$reports" || exit 2
+marks=$most
+made 4 0 16 $marks 3/3
+made 5 21 16 $marks 0/0
+made 6 16 16 $marks 1/0
+boot 16 10/1 2/1 5/7 11/2 10/1 15/15 <"$here/../samples/phases.rec"
+made 7 0 0 16/1 $marks 3/3
+made 8 0 17 $marks 3/16
+made 9 0 16 $marks 3-3
+
 # Runs the program over its inputs: 0 where it writes what the model does, 1 at the first where it
 # doesn't, and then $where says where. All ways to run it have a say, but for an interpreter that
 # ran out of steps.
 try() { # program
     for input in "$inputs/$1".*; do
+        words=$inputs/words.${input##*.}
         case $1 in
         spurcalls) "$out/modelcalls" ;;
-        *) "$out/modeljudge" ;;
+        spurjudge) "$out/modeljudge" ;;
+        *) cp "$words" "$copy/crates/$1/args" && "$out/modelphases" $(cat "$words") 2>"$out/none" ;;
         esac <"$input" >"$copy/crates/$1/stdout"
         cp "$input" "$copy/crates/$1/stdin" || exit 2
         (cd "$copy" && rt try "$1") >"$out/said" 2>&1 && continue
@@ -93,7 +128,10 @@ one() { # file, old, new, what
     edit "$1" "$2" "$3"
     planted=$((planted + 1))
     program=spurcalls
-    case $1 in stream/* | printed/* | text/* | reading/* | spurjudge/*) program=spurjudge ;; esac
+    case $1 in
+    stream/* | printed/* | text/* | reading/* | spurjudge/*) program=spurjudge ;;
+    phases/* | phaselines/* | spurphases/*) program=spurphases ;;
+    esac
     if try "$program"; then
         echo "MISSED: ${1%%/*}: $4"
     else
@@ -104,7 +142,7 @@ one() { # file, old, new, what
     cp "$out/whole" "$copy/crates/$1"
 }
 
-for program in spurcalls spurjudge; do
+for program in spurcalls spurjudge spurphases; do
     try "$program" || {
         cut -c 1-200 "$out/said"
         echo "without a bug $program differs from the model: $where"
@@ -112,7 +150,8 @@ for program in spurcalls spurjudge; do
     }
 done
 calls=$(cat "$inputs"/spurcalls.* | wc -c)
-echo "without a bug: $((calls / 64)) calls and three recordings, all as the model answers"
+echo "without a bug: $((calls / 64)) calls, three recordings and $reports boot reports, all as the" \
+    "model answers"
 while IFS= read -r file; do
     case $file in '#'* | '') continue ;; esac
     IFS= read -r old
