@@ -5,7 +5,8 @@
    makerec phases RECORDS        a boot with marks (02, wish 1), and rule 8 broken behind them
    makerec marked CROWD SEED S/N ..
                                  the marks in order, before each up to CROWD that are nearly marks,
-                                 and behind the last one's ACK one record that breaks a rule
+                                 and behind the last one's ACK one record that breaks a rule;
+                                 with CROWD 0 each is near to where a read of 1,000 bytes ends
    makerec sound RECORDS SEED    simulated traffic of any kind that conforms
    makerec wild RECORDS SEED     whatever conforms
    makerec damage RULE SEED      a recording whose first breach is of the rule */
@@ -94,6 +95,13 @@ static int put_writes(struct maker *m)
     return 1;
 }
 
+/* Records up to where a read of 1,000 bytes soon ends, with a record or within one. */
+static void pad(struct maker *m)
+{
+    unsigned edge = rng_chance(m->g, 50) ? 125 : 125 + 62;
+    marked_far(m, 123 + edge - (unsigned)(m->out.len / RECORD % 125) - rng_below(m->g, 8));
+}
+
 /* Adds the marks that the words name; 0 where a word names none, or they are too many. */
 static int put_marks(struct maker *m, char **words, size_t count, unsigned crowd)
 {
@@ -104,7 +112,12 @@ static int put_marks(struct maker *m, char **words, size_t count, unsigned crowd
         if (sscanf(words[i], "%u/%u", &marks[i].slot, &marks[i].number) != 2 ||
             marks[i].slot > 15 || marks[i].number > 15)
             return 0;
-    marked_boot(m, marks, count, count, crowd);
+    for (size_t i = 0; crowd == 0 && i < count; i++) {
+        pad(m);
+        marked_near(m, marks[i], THE_MARK);
+    }
+    if (crowd > 0)
+        marked_boot(m, marks, count, count, crowd);
     marked_break(m);
     return 1;
 }
@@ -148,7 +161,8 @@ int main(int argc, char **argv)
         damage(&m, (int)a);
     } else {
         fprintf(stderr, "makerec boot RECORDS | breach RECORDS RULE | phases RECORDS | "
-                        "marked CROWD SEED S/N .. | sound RECORDS SEED | wild RECORDS SEED | damage RULE SEED\n");
+                        "marked CROWD SEED S/N .. | sound RECORDS SEED | wild RECORDS SEED | "
+                        "damage RULE SEED\n");
         return 2;
     }
     if (fwrite(m.out.bytes, 1, m.out.len, stdout) != m.out.len || fflush(stdout) != 0) {

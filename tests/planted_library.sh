@@ -59,9 +59,9 @@ done
 "$out/makerec" breach 4000 3 >"$inputs/spurjudge.3" || exit 2
 
 # Boot reports, the program's words beside the recording: marks, before each up to sixty that are
-# nearly marks, and right behind the last one's ACK a breach; half of them asked for; that ACK
-# breaking a rule; with a mark asked for besides, the breach, a torn end or the end; the sample; and
-# words for which there are several refusals, or which are none.
+# nearly marks, and right behind the last one's ACK a breach; marks where reads end, half of them
+# asked for; an ACK of the last that breaks a rule; a mark asked for besides, before the breach, a
+# torn end and the end; the sample; words for which there are several refusals, or which are none.
 reports=0
 boot() { # words; the recording on standard input
     reports=$((reports + 1))
@@ -69,7 +69,7 @@ boot() { # words; the recording on standard input
     printf '%s\n' "$@" >"$inputs/words.$reports" || exit 2
 }
 made() { # seed, bytes off the end, words
-    "$out/makerec" marked 60 $((seed + $1)) $marks >"$out/whole" || exit 2
+    "$out/makerec" marked "$crowd" $((seed + $1)) $marks >"$out/whole" || exit 2
     head -c $(($(wc -c <"$out/whole") - $2)) "$out/whole" >"$out/made" || exit 2
     shift 2
     boot "$@" <"$out/made"
@@ -77,8 +77,11 @@ made() { # seed, bytes off the end, words
 few="3/4 12/0 3/4 15/15 0/0 0/15 15/0 8/8 1/2 2/1 6/5 10/1 7/7 4/9 9/4 11/13"
 most="$few 13/11 14/3 5/6 3/4 0/8 8/0 2/10 10/2 15/15 1/14 14/1 0/3 3/0 6/6 12/12"
 marks="$most 9/10"
+crowd=60
 made 1 0 16 $marks
+crowd=0
 made 2 0 16 $few
+crowd=60
 made 3 17 16 $marks
 printf x >>"$inputs/spurphases.$reports" || exit 2
 marks=$most
@@ -150,8 +153,8 @@ for program in spurcalls spurjudge spurphases; do
     }
 done
 calls=$(cat "$inputs"/spurcalls.* | wc -c)
-echo "without a bug: $((calls / 64)) calls, three recordings and $reports boot reports, all as the" \
-    "model answers"
+echo "without a bug: $((calls / 64)) calls, three recordings and $reports boot reports," \
+    "all as the model answers"
 while IFS= read -r file; do
     case $file in '#'* | '') continue ;; esac
     IFS= read -r old
