@@ -4,3 +4,4 @@ pub mod Onward
 pub mod Reported
 pub mod Phasing
 pub mod Worked
+pub mod Numbers

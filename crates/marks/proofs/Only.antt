@@ -19,7 +19,7 @@ use Rattle.marks.specs.declared.Report.{Report}
 use Rattle.marks.specs.declared.Why.{Why}
 use Rattle.marks.specs.declared.Why.the-variants.{Complete, AtBreach, Torn, TooMany, Absent, OutOfBounds}
 use Rattle.marks.specs.Marks.{markAt, Written, FirstWrite, MarkAt, first, next}
-use Rattle.marks.specs.Report.{diffsOf, NotYet, LastAck, Because, Right}
+use Rattle.marks.specs.Report.{diffsOf, NotYet, LastAck, Lacks, Because, Right}
 
 -- ---- places
 written-once : (r : Lines) (m : Mark) (k i j : ℕ) → Written r m k i → Written r m k j → i ≡ j
@@ -66,12 +66,12 @@ mark-earlier r m _ q c d (next {p} {k} {i} x v) le =
 -- ---- reports
 -- a report is complete, or the next mark is not among what is read
 either : (limit : ℕ) (m : Marks) (bytes : List ℕ) (n found : ℕ) (why : Why) → Because limit m bytes n found why
-    → ((found ≡ m .count) × LastAck (recordingIn bytes .lines) m n) ⊎ ((found < m .count) × NotYet (recordingIn bytes .lines) m n found)
+    → ((found ≡ m .count) × LastAck (recordingIn bytes .lines) m n) ⊎ Lacks m bytes n found
 either limit m bytes n found Complete h = inl h
-either limit m bytes n found (AtBreach b) h = inr (h .0, h .1)
-either limit m bytes n found Torn h = inr (h .0, h .1)
-either limit m bytes n found TooMany h = inr (h .0, h .1)
-either limit m bytes n found (Absent p) h = inr (h .0, h .1)
+either limit m bytes n found (AtBreach b) h = inr (h .0)
+either limit m bytes n found Torn h = inr (h .0)
+either limit m bytes n found TooMany h = inr (h .0)
+either limit m bytes n found (Absent p) h = inr (h .0)
 either limit m bytes n found OutOfBounds h = absurd h
 
 module _ (limit : ℕ) (m : Marks) (bytes : List ℕ) where
@@ -102,10 +102,10 @@ module _ (limit : ℕ) (m : Marks) (bytes : List ℕ) where
       where
         stops : (why : Why) → Because limit m bytes (e .records) (e .found) why → ⊥
         stops Complete h = not-behind (e .records) (f .records) (f .found) (f .why) (h .1) lt (b .why)
-        stops (AtBreach x) h = kept-not (rules limit (recordingIn bytes) (e .records)) (x .rule) (b .kept (e .records) lt) (h .4)
-        stops Torn h = let x = h .2 in let y = b .within in omega arith
-        stops TooMany h = let x = h .2 in let y = b .within in omega arith
-        stops (Absent p) h = let x = h .2 in let y = b .within in omega arith
+        stops (AtBreach x) h = kept-not (rules limit (recordingIn bytes) (e .records)) (x .rule) (b .kept (e .records) lt) (h .3)
+        stops Torn h = let x = h .1 in let y = b .within in omega arith
+        stops TooMany h = let x = h .1 in let y = b .within in omega arith
+        stops (Absent p) h = let x = h .1 in let y = b .within in omega arith
         stops OutOfBounds h = h
 
     -- nor finds more, both having read the same
@@ -131,33 +131,33 @@ module _ (limit : ℕ) (m : Marks) (bytes : List ℕ) where
   why-only : (n found : ℕ) (v w : Why) → Because limit m bytes n found v → Because limit m bytes n found w → v ≡ w
   unfolding judgedIn
   why-only n found Complete Complete a b = refl
-  why-only n found Complete (AtBreach y) a b = let p = a .0 in let q = b .0 in absurd (omega arith)
-  why-only n found Complete Torn a b = let p = a .0 in let q = b .0 in absurd (omega arith)
-  why-only n found Complete TooMany a b = let p = a .0 in let q = b .0 in absurd (omega arith)
-  why-only n found Complete (Absent y) a b = let p = a .0 in let q = b .0 in absurd (omega arith)
-  why-only n found (AtBreach x) Complete a b = let p = a .0 in let q = b .0 in absurd (omega arith)
-  why-only n found Torn Complete a b = let p = a .0 in let q = b .0 in absurd (omega arith)
-  why-only n found TooMany Complete a b = let p = a .0 in let q = b .0 in absurd (omega arith)
-  why-only n found (Absent x) Complete a b = let p = a .0 in let q = b .0 in absurd (omega arith)
-  why-only n found (AtBreach x) (AtBreach y) a b = same (x .rule) (y .rule) (x .place) (y .place) (first-only (rules limit (recordingIn bytes) n) (x .rule) (y .rule) (a .4) (b .4)) (a .3 ∙ sym (b .3))
+  why-only n found Complete (AtBreach y) a b = let p = a .0 in let q = b .0 .0 in absurd (omega arith)
+  why-only n found Complete Torn a b = let p = a .0 in let q = b .0 .0 in absurd (omega arith)
+  why-only n found Complete TooMany a b = let p = a .0 in let q = b .0 .0 in absurd (omega arith)
+  why-only n found Complete (Absent y) a b = let p = a .0 in let q = b .0 .0 in absurd (omega arith)
+  why-only n found (AtBreach x) Complete a b = let p = a .0 .0 in let q = b .0 in absurd (omega arith)
+  why-only n found Torn Complete a b = let p = a .0 .0 in let q = b .0 in absurd (omega arith)
+  why-only n found TooMany Complete a b = let p = a .0 .0 in let q = b .0 in absurd (omega arith)
+  why-only n found (Absent x) Complete a b = let p = a .0 .0 in let q = b .0 in absurd (omega arith)
+  why-only n found (AtBreach x) (AtBreach y) a b = same (x .rule) (y .rule) (x .place) (y .place) (first-only (rules limit (recordingIn bytes) n) (x .rule) (y .rule) (a .3) (b .3)) (a .2 ∙ sym (b .2))
     where
       same : (j k p q : ℕ) → j ≡ k → p ≡ q → AtBreach (record { rule = j; place = p }) ≡ AtBreach (record { rule = k; place = q })
       same j k p q u v = rw (u, v)
-  why-only n found (AtBreach x) Torn a b = let p = a .2 in let q = b .2 in absurd (omega arith)
-  why-only n found (AtBreach x) TooMany a b = let p = a .2 in let q = b .2 in absurd (omega arith)
-  why-only n found (AtBreach x) (Absent y) a b = let p = a .2 in let q = b .2 in absurd (omega arith)
-  why-only n found Torn (AtBreach y) a b = let p = a .2 in let q = b .2 in absurd (omega arith)
-  why-only n found TooMany (AtBreach y) a b = let p = a .2 in let q = b .2 in absurd (omega arith)
-  why-only n found (Absent x) (AtBreach y) a b = let p = a .2 in let q = b .2 in absurd (omega arith)
+  why-only n found (AtBreach x) Torn a b = let p = a .1 in let q = b .1 in absurd (omega arith)
+  why-only n found (AtBreach x) TooMany a b = let p = a .1 in let q = b .1 in absurd (omega arith)
+  why-only n found (AtBreach x) (Absent y) a b = let p = a .1 in let q = b .1 in absurd (omega arith)
+  why-only n found Torn (AtBreach y) a b = let p = a .1 in let q = b .1 in absurd (omega arith)
+  why-only n found TooMany (AtBreach y) a b = let p = a .1 in let q = b .1 in absurd (omega arith)
+  why-only n found (Absent x) (AtBreach y) a b = let p = a .1 in let q = b .1 in absurd (omega arith)
   why-only n found Torn Torn a b = refl
-  why-only n found Torn TooMany a b = let p = a .2 in let q = b .2 in let s = b .3 in absurd (omega arith)
-  why-only n found Torn (Absent y) a b = absurd (a .3 (b .3))
+  why-only n found Torn TooMany a b = let p = a .1 in let q = b .1 in let s = b .2 in absurd (omega arith)
+  why-only n found Torn (Absent y) a b = absurd (a .2 (b .2))
   why-only n found TooMany TooMany a b = refl
-  why-only n found TooMany Torn a b = let p = a .2 in let q = b .2 in let s = a .3 in absurd (omega arith)
-  why-only n found TooMany (Absent y) a b = let p = a .2 in let q = b .2 in let s = a .3 in absurd (omega arith)
-  why-only n found (Absent x) (Absent y) a b = ap Absent (a .4 ∙ sym (b .4))
-  why-only n found (Absent x) Torn a b = absurd (b .3 (a .3))
-  why-only n found (Absent x) TooMany a b = let p = a .2 in let q = b .2 in let s = b .3 in absurd (omega arith)
+  why-only n found TooMany Torn a b = let p = a .1 in let q = b .1 in let s = a .2 in absurd (omega arith)
+  why-only n found TooMany (Absent y) a b = let p = a .1 in let q = b .1 in let s = a .2 in absurd (omega arith)
+  why-only n found (Absent x) (Absent y) a b = ap Absent (a .3 ∙ sym (b .3))
+  why-only n found (Absent x) Torn a b = absurd (b .2 (a .2))
+  why-only n found (Absent x) TooMany a b = let p = a .1 in let q = b .1 in let s = b .2 in absurd (omega arith)
   why-only n found OutOfBounds w a b = absurd a
   why-only n found Complete OutOfBounds a b = absurd b
   why-only n found (AtBreach x) OutOfBounds a b = absurd b

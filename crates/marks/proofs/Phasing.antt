@@ -100,10 +100,10 @@ module _ (limit : ℕ) (m : Marks) (lawful : beginRefusal limit m ≡ 0) where
         → (why : Why) → Because limit m bytes (report .records) (report .found) why → why ≡ Complete
     unfolding judgedIn
     completes last k i keeps e x lt Complete h = refl
-    completes last k i keeps e x lt (AtBreach b) h = absurd (kept-not (rules limit (recordingIn bytes) (report .records)) (b .rule) (keeps (report .records) (h .2)) (h .4))
-    completes last k i keeps e x lt Torn h = absurd (none-lacks last k i (report .records) (report .found) e x lt (let z = h .2 in omega arith) (h .0) (h .1))
-    completes last k i keeps e x lt TooMany h = absurd (none-lacks last k i (report .records) (report .found) e x lt (let z = h .2 in omega arith) (h .0) (h .1))
-    completes last k i keeps e x lt (Absent p) h = absurd (none-lacks last k i (report .records) (report .found) e x lt (let z = h .2 in omega arith) (h .0) (h .1))
+    completes last k i keeps e x lt (AtBreach b) h = absurd (kept-not (rules limit (recordingIn bytes) (report .records)) (b .rule) (keeps (report .records) (h .1)) (h .3))
+    completes last k i keeps e x lt Torn h = absurd (none-lacks last k i (report .records) (report .found) e x lt (let z = h .1 in omega arith) (h .0 .0) (h .0 .1))
+    completes last k i keeps e x lt TooMany h = absurd (none-lacks last k i (report .records) (report .found) e x lt (let z = h .1 in omega arith) (h .0 .0) (h .0 .1))
+    completes last k i keeps e x lt (Absent p) h = absurd (none-lacks last k i (report .records) (report .found) e x lt (let z = h .1 in omega arith) (h .0 .0) (h .0 .1))
     completes last k i keeps e x lt OutOfBounds h = absurd h
 
     whole : (last k i : ℕ) → ((j : ℕ) → j < judgedIn bytes → Keeps limit (recordingIn bytes) j) → suc last ≡ m .count → MarkAt lines m last k i → i < judgedIn bytes

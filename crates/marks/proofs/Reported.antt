@@ -269,7 +269,7 @@ module _ (limit : ℕ) (low : 1 ≤ limit) (high : limit ≤ 16) (m : Marks) (la
         subst Over (sym here) (
           refl,
           report-right (withStream p (stateWith PastMost (judged i .judge) t [])) i TooMany (h .marks) (judged-sound i (let z = now .totals .records in omega arith)) (omega arith) (h .search) (let z = h .lacking in omega arith)
-              (now .totals .records) (omega arith) (now .good) (cond-false _ _ missing) (h .lacking, not-yet lines m i (p .search) (h .search), e, omega arith),
+              (now .totals .records) (omega arith) (now .good) (cond-false _ _ missing) ((h .lacking, not-yet lines m i (p .search) (h .search)), e, omega arith),
         )
 
     next-judged : nextOf (from (judged i .judge) (judged i .tally)) (recordAt b) ≡ judged (suc i)
@@ -289,7 +289,7 @@ module _ (limit : ℕ) (low : 1 ≤ limit) (high : limit ≤ 16) (m : Marks) (la
               subst Over (sym (seen-ended (stateWith (Stopped (brokenAt (suc i))) (judged (suc i) .judge) (judged (suc i) .tally) []) (gone ∙ after-breach false (judged (suc i)) [] ne) refl)) (
                 refl,
                 report-right (withStream p (stateWith (Stopped (brokenAt (suc i))) (judged (suc i) .judge) (judged (suc i) .tally) [])) i (AtBreach (brokenAt (suc i))) (h .marks) (judged-sound (suc i) (omega arith)) (omega arith) (h .search) (let z = h .lacking in omega arith)
-                    records (omega arith) (now .good) (cond-false _ _ missing) (h .lacking, not-yet lines m i (p .search) (h .search), omega arith, records, breaks),
+                    records (omega arith) (now .good) (cond-false _ _ missing) ((h .lacking, not-yet lines m i (p .search) (h .search)), omega arith, records, breaks),
               )
 
           go : Reached limit (recordingIn bytes) (suc i) (judged (suc i)) → Over (nextSeen p b)
@@ -417,9 +417,9 @@ module _ (limit : ℕ) (low : 1 ≤ limit) (high : limit ≤ 16) (m : Marks) (la
         let lt = h .lacking in
         by-test (eqb (length left) 0)
         (λ e. report-right waits n (Absent (all-read .search .found)) (h .marks) sound few (h .search) (omega arith) (now .totals .records) (omega arith) (now .good)
-        (cond-false _ _ lack ∙ ap (lacking (all-read .search .found)) (cond-true _ _ e)) (lt, notyet, refl, (let z = eqb-true (length left) 0 e in omega arith), refl))
+        (cond-false _ _ lack ∙ ap (lacking (all-read .search .found)) (cond-true _ _ e)) ((lt, notyet), refl, (let z = eqb-true (length left) 0 e in omega arith), refl))
         (λ e. report-right waits n Torn (h .marks) sound few (h .search) (omega arith) (now .totals .records) (omega arith) (now .good)
-        (cond-false _ _ lack ∙ ap (lacking (all-read .search .found)) (cond-false _ _ e)) (lt, notyet, refl, (λ z. eqb-false (length left) 0 e (omega arith))))
+        (cond-false _ _ lack ∙ ap (lacking (all-read .search .found)) (cond-false _ _ e)) ((lt, notyet), refl, (λ z. eqb-false (length left) 0 e (omega arith))))
 
   -- WHAT IS FED IS WITHIN BOUNDS, AND ITS REPORT IS RIGHT
   pub fed-right : (phasesBounds (fedPhases (freshPhases limit m) bytes) ≡ true) × Right limit m bytes (reportOf (fedPhases (freshPhases limit m) bytes))

@@ -113,7 +113,7 @@ module _ (r : Lines) (m : Marks) (i : ℕ) (s : Search) (h : SearchIs r m i s) w
     written =
         record {
           behind = w .behind;
-          written = record { begins = w .begins; opened = w .opened; alive = nr; plain = ns; ends = a; one = t1; both = t0 };
+          written = record { begins = w .begins; opened = w .opened; alive = nr; plain = ns; ends = a; tm1 = t1; tm0 = t0 };
           none = λ l j le lt v.
               by-test (ltb j i) (λ e. h .none l j le (ltb-true j i e) v)
               (λ e. let z = ltb-false j i e in let y = w .opened .earlier in clash (w .opened .starts) (v .opened .alone k lt (omega arith)));
@@ -154,7 +154,7 @@ module _ (r : Lines) (m : Marks) (i : ℕ) (s : Search) (h : SearchIs r m i s) w
   after-ack (Since span) (k, w, e) room nr ns a =
       choice (SearchIs r m (suc i)) (r i .tm1 && r i .tm0)
       (λ both. let t = and-both (r i .tm1) (r i .tm0) both in counted k w nr ns a (t .0) (t .1) span e room)
-      (λ no. still Nothing (ended ns a) (λ l le v. clash (pair (v .one) (v .both)) no))
+      (λ no. still Nothing (ended ns a) (λ l le v. clash (pair (v .tm1) (v .tm0)) no))
     where
       pair : r i .tm1 ≡ true → r i .tm0 ≡ true → (r i .tm1 && r i .tm0) ≡ true
       pair x y = rw (x, y)

@@ -57,8 +57,8 @@ pub record Written (r : Lines) (m : Mark) (k i : ℕ) : Type 0 where
   pub alive : r i .reset ≡ false
   pub plain : r i .start ≡ false
   pub ends : r i .ack ≡ true
-  pub one : r i .tm1 ≡ true
-  pub both : r i .tm0 ≡ true
+  pub tm1 : r i .tm1 ≡ true
+  pub tm0 : r i .tm0 ≡ true
 
 -- the first write to the mark whose START is at record `from` or behind it
 pub record FirstWrite (r : Lines) (m : Mark) (from k i : ℕ) : Type 0 where

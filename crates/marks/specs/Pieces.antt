@@ -55,6 +55,7 @@ pub record Phasing (limit : ℕ) (m : Marks) : Type 0 where
       → ((j : ℕ) → j < judgedIn bytes → Keeps limit (recordingIn bytes) j)
       → suc last ≡ m .count → MarkAt (recordingIn bytes .lines) m last k i → i < judgedIn bytes
       → (reportIn limit m bytes .why ≡ Complete) × ((p l j : ℕ) → MarkAt (recordingIn bytes .lines) m p l j → p ≤ last → getD (reportIn limit m bytes .spans) p 0 ≡ cycle (recordingIn bytes .lines) l)
-  -- The differences are no less than they say: each added to the span before is the span, so that all of them are the last span less the first.
+  -- No difference is cut off at 0: those of marks 1 to n, added to the first span, are the span at mark n, so that all of them together are the last
+  -- span less the first.
   pub sums : (bytes : List ℕ) (n : ℕ) → n < reportIn limit m bytes .found
       → getD (reportIn limit m bytes .spans) 0 0 + summed (reportIn limit m bytes .spans) n ≡ getD (reportIn limit m bytes .spans) n 0

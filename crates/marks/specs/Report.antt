@@ -2,13 +2,14 @@
 -- last mark ..; a breach after that point isn't reported, and the records read are given. Refusals: .. 10, a mark absent at a conforming end, with its
 -- place, last." Which report is right of an input, said of its recording.
 use Prim.Native.Nat.{ℕ, zero, suc, _-_, _%_, _≤_, _<_}
+use mathlib.Core.Bool.{true}
 use mathlib.Core.List.{List}
 use mathlib.Core.Path.{_≡_}
 use lib.ListN.{length, getD, set, replicate}
 use Rattle.basics.specs.Answers.{Answer, accepted, refused}
 use Rattle.rules.specs.Recording.{Lines, recordingIn, cycle}
 use Rattle.rules.specs.Thirteen.{Keeps, Breaks}
-use Rattle.rules.specs.Verdict.{mostRecords}
+use Rattle.rules.specs.Verdict.{mostRecords, Finding, nothing}
 use Rattle.feeding.specs.Input.{wholeIn, judgedIn}
 use Rattle.marks.specs.declared.Marks.{Marks}
 use Rattle.marks.specs.declared.Report.{Report}
@@ -46,22 +47,23 @@ pub record LastAck (r : Lines) (m : Marks) (n : ℕ) : Type 0 where
   pub mark : MarkAt r m place start ack
   pub here : n ≡ suc ack
 
+-- the first of the marks that are missing is not among the n records
+abbrev pub Lacks : Marks → List ℕ → ℕ → ℕ → Type 0
+Lacks m bytes n found = (found < m .count) × NotYet (recordingIn bytes .lines) m n found
+
 -- why the report stops behind n records with so many marks found
 abbrev pub Because : ℕ → Marks → List ℕ → ℕ → ℕ → Why → Type 0
 -- "It stops at the ACK of the last mark"
 Because limit m bytes n found Complete = (found ≡ m .count) × LastAck (recordingIn bytes .lines) m n
 -- else a mark is missing still, and record n breaks a rule, this being the lowest;
 Because limit m bytes n found (AtBreach b) =
-    (found < m .count) × NotYet (recordingIn bytes .lines) m n found × (n < judgedIn bytes) × (b .place ≡ n) × Breaks limit (recordingIn bytes) n (b .rule)
+    Lacks m bytes n found × (n < judgedIn bytes) × (b .place ≡ n) × Breaks limit (recordingIn bytes) n (b .rule)
 -- or all whole records are read, and a torn one is left;
-Because limit m bytes n found Torn =
-    (found < m .count) × NotYet (recordingIn bytes .lines) m n found × (n ≡ wholeIn bytes) × (length bytes % 16 ≡ 0 → ⊥)
+Because limit m bytes n found Torn = Lacks m bytes n found × (n ≡ wholeIn bytes) × (length bytes % 16 ≡ 0 → ⊥)
 -- or 2^30 records are read, and there is a whole one more;
-Because limit m bytes n found TooMany =
-    (found < m .count) × NotYet (recordingIn bytes .lines) m n found × (n ≡ mostRecords) × (mostRecords < wholeIn bytes)
+Because limit m bytes n found TooMany = Lacks m bytes n found × (n ≡ mostRecords) × (mostRecords < wholeIn bytes)
 -- or all of the input is read: "10, a mark absent at a conforming end, with its place, last"
-Because limit m bytes n found (Absent p) =
-    (found < m .count) × NotYet (recordingIn bytes .lines) m n found × (n ≡ wholeIn bytes) × (length bytes % 16 ≡ 0) × (p ≡ found)
+Because limit m bytes n found (Absent p) = Lacks m bytes n found × (n ≡ wholeIn bytes) × (length bytes % 16 ≡ 0) × (p ≡ found)
 Because limit m bytes n found OutOfBounds = ⊥
 
 -- THE REPORT IS RIGHT of an input: every record read keeps the thirteen rules; the first `found` marks are among them, each with its time, and the
@@ -76,19 +78,18 @@ pub record Right (limit : ℕ) (m : Marks) (bytes : List ℕ) (e : Report) : Typ
   pub why : Because limit m bytes (e .records) (e .found) (e .why)
 
 -- ---- document 01's and 02's number and values for why a report ends
--- the rule that is broken and the record that breaks it; the place of the mark that is absent
+-- what the judge finds, and the place of the mark that is absent; all zeros where there is none
 pub record Reason : Type 0 where
-  pub rule : ℕ
-  pub broken : ℕ
+  pub finding : Finding
   pub absent : ℕ
 
 abbrev pub noReason : Reason
-noReason = record { rule = 0; broken = 0; absent = 0 }
+noReason = record { finding = nothing; absent = 0 }
 
 abbrev pub whyAnswer : Why → Answer Reason
 whyAnswer Complete = accepted noReason
-whyAnswer (AtBreach b) = accepted (record { rule = b .rule; broken = b .place; absent = 0 })
+whyAnswer (AtBreach b) = accepted (record { finding = record { breach = true; rule = b .rule; place = b .place }; absent = 0 })
 whyAnswer Torn = refused 1 noReason
 whyAnswer TooMany = refused 8 noReason
-whyAnswer (Absent p) = refused 10 (record { rule = 0; broken = 0; absent = p })
+whyAnswer (Absent p) = refused 10 (record { finding = nothing; absent = p })
 whyAnswer OutOfBounds = refused 5 noReason

@@ -214,6 +214,7 @@ fn refused(number: u8, nothing: Stream) -> Phased
 pub fn fresh(limit: u8, marks: Marks) -> Phased
     ensures { λ r. ⌜ r ≡ begunOf limit marks ⌝ }
 {
+    // A stream that is refused is all zeros.
     let none = stream::fresh(0);
     let nothing = none.stream;
     if !bounds::some_marks(marks) {

@@ -58,7 +58,7 @@ fn writes_to(mark: Mark, decoded: Decoded) -> bool
     }
 }
 
-pub(crate) fn is_start_of(mark: Mark, lines: Record) -> bool
+fn is_start_of(mark: Mark, lines: Record) -> bool
     ensures { λ r. ⌜ r ≡ isStartOf mark lines ⌝ }
 {
     if lines.start & !lines.ack & !lines.reset {

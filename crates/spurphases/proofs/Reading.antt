@@ -43,9 +43,9 @@ ends OutOfBounds = false
 ends-read : (limit : ℕ) (m : Marks) (bytes : List ℕ) (n found : ℕ) (why : Why) → Because limit m bytes n found why → ends why ≡ true → n ≡ wholeIn bytes
 ends-read limit m bytes n found Complete h e = absurd (false≢true e)
 ends-read limit m bytes n found (Broke b) h e = absurd (false≢true e)
-ends-read limit m bytes n found Torn h e = h .2
+ends-read limit m bytes n found Torn h e = h .1
 ends-read limit m bytes n found TooMany h e = absurd (false≢true e)
-ends-read limit m bytes n found (Absent place) h e = h .2
+ends-read limit m bytes n found (Absent place) h e = h .1
 ends-read limit m bytes n found OutOfBounds h e = absurd h
 
 -- and one that is under way would end with it

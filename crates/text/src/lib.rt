@@ -114,13 +114,6 @@ pub fn put_named(buffer: &mut [u8], place: Place, name: &[u8], n: u64) -> Place
     both
 }
 
-// Puts a number alone.
-pub fn put_number(buffer: &mut [u8], place: Place, n: u64) -> Place
-    ensures { λ r. ⌜ (r ≡ movedBy (length (now (buffer .entry))) place (length (decimalOf n))) × (now (buffer .exit) ≡ putAt (now (buffer .entry)) place (decimalOf n)) ⌝ }
-{
-    put_named(buffer, place, b"", n)
-}
-
 fn is_digit(byte: u8) -> bool
     ensures { λ r. ⌜ r ≡ isDigit byte ⌝ }
 {
