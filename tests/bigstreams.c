@@ -117,7 +117,7 @@ long run_stream(const char *what, writer *write, void *with, uint64_t records, c
 static void judged_blocks(const struct block *b, uint64_t blocks, char *text)
 {
     struct tally t = blocks_tally(b, blocks);
-    judge_text(&t, 0, 0, 0, text);
+    judge_text(&t, 0, NO_BREACH, 0, text);
 }
 
 static long run_blocks(const char *what, struct block *b, uint64_t blocks, blocks_text *right)
@@ -207,15 +207,15 @@ static void random_run(enum kind kind, uint64_t size, unsigned long seed, int sa
     struct tally t = {0};
     struct result r;
     char text[TEXT], detail[4 * TEXT] = "";
+    struct verdict v = NO_BREACH;
     uint32_t stamp = 0;
-    int rule = 0;
     judge_fresh(&j, 16);
-    for (uint64_t at = 0; size - at >= RECORD && rule == 0; at += RECORD) {
+    for (uint64_t at = 0; size - at >= RECORD && v.rule == 0; at += RECORD) {
         if (at % sizeof bytes == 0)
             random_block(&g, kind, &stamp, bytes);
-        rule = judge_one(&j, &t, bytes + at % sizeof bytes);
+        v = judge_one(&j, &t, bytes + at % sizeof bytes);
     }
-    judge_text(&t, j.open, rule, size % RECORD != 0, text);
+    judge_text(&t, j.open, v, size % RECORD != 0, text);
     run_plan(&p, &r);
     int good = printed(&r, text);
     if (!good)

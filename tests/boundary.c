@@ -71,7 +71,7 @@ static void bound_text(const struct last *l, char *text)
 {
     struct tally t = blocks_tally(l->block, l->blocks), of_last = {0};
     struct judge j;
-    int rule = 0;
+    struct verdict v = NO_BREACH;
     uint8_t *bytes = malloc(2 * WHOLE);
     if (bytes == NULL)
         exit(2);
@@ -80,16 +80,18 @@ static void bound_text(const struct last *l, char *text)
     memcpy(bytes + WHOLE, l->block->bytes, WHOLE);
     spoil_spare(l->bound, bytes);
     judge_fresh(&j, 16);
-    for (size_t i = 0; i < BLOCK && rule == 0; i++)
-        rule = judge_one(&j, &of_last, bytes + i * RECORD);
+    for (size_t i = 0; i < BLOCK && v.rule == 0; i++)
+        v = judge_one(&j, &of_last, bytes + i * RECORD);
     free(bytes);
     t.records += of_last.records;
     t.span += of_last.span + 1; /* and the step from the block before */
     t.starts += of_last.starts;
     t.acks += of_last.acks;
     t.aborted += of_last.aborted;
-    judge_text(&t, j.open, rule, l->bound->refusal, text);
-    if (rule != l->bound->rule) {
+    v.record = t.records; /* the one breach here is of rule 1, and tells the totals' span */
+    v.span = t.span;
+    judge_text(&t, j.open, v, l->bound->refusal, text);
+    if (v.rule != l->bound->rule) {
         fprintf(stderr, "the breach isn't where it was meant\n");
         exit(2);
     }

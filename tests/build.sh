@@ -23,7 +23,7 @@ link modeljudge $model
 link outside $model $makers $running
 link faults bigstreams boundary phasefaults marks $model $makers $running
 link limits $model $makers $running
-link golden goldenrules goldenphases $model $makers $running
+link golden goldenrules goldenbreach goldenphases $model $makers $running
 link modelphases marks $model
 link phases phasewords $marks $model $makers $running
 link selftest lookback selfmarks marksback $marks $model $makers

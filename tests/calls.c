@@ -207,9 +207,12 @@ static void call_cache(struct driver *d, const uint8_t *c, uint8_t *a)
 /* After a raw setting the paper doesn't say what a wave without a START keeps as its turn and
    ARB, nor how an open transfer ages at a first record. A RESET settles both; a START (or, for
    the age, any other record) before one makes the judge's answers depend on the build until it
-   is fresh again. */
-static void watch_loose(struct driver *d, const uint8_t *bytes, size_t records, size_t taken)
+   is fresh again. A START that breaks a rule below 8, or 8b, does so whatever turn was set, and
+   leaves the judge as it was. */
+static void watch_loose(struct driver *d, const uint8_t *bytes, size_t records, size_t taken,
+                        struct verdict v)
 {
+    int settled = (v.rule > 0 && v.rule < 8) || v.kind == TOO_FEW;
     struct record r;
     for (size_t i = 0; i < records && i <= taken; i++) {
         if (!d->loose_turn && !d->loose_age)
@@ -217,14 +220,14 @@ static void watch_loose(struct driver *d, const uint8_t *bytes, size_t records, 
         record_read(&r, bytes + i * RECORD);
         if (r.reset && i < taken)
             d->loose_turn = d->loose_age = 0;
-        else if (!r.reset && (d->loose_age || r.start))
+        else if (!r.reset && (d->loose_age || (r.start && !(settled && i == taken))))
             d->unknown = 1;
     }
 }
 
 static void call_judge(struct driver *d, const uint8_t *c, uint8_t *a)
 {
-    struct verdict v = {0, 0};
+    struct verdict v;
     uint32_t before = d->tally.records;
     int had_turn = d->judge.turn > 0;
     size_t len = at_most(c[1], 48);
@@ -239,7 +242,7 @@ static void call_judge(struct driver *d, const uint8_t *c, uint8_t *a)
     case 20:
         a[0] = (uint8_t)judge_recording(&d->judge, &d->tally, c + 2, len, &v);
         if (a[0] == 0)
-            watch_loose(d, c + 2, len / RECORD, d->tally.records - before);
+            watch_loose(d, c + 2, len / RECORD, d->tally.records - before, v);
         a[1] = (uint8_t)v.rule;
         set_number(a + 2, 4, v.record);
         set_number(a + 6, 4, d->tally.records);
@@ -248,6 +251,8 @@ static void call_judge(struct driver *d, const uint8_t *c, uint8_t *a)
         set_number(a + 22, 4, d->tally.acks);
         set_number(a + 26, 4, d->tally.aborted);
         a[30] = d->judge.open;
+        a[31] = (uint8_t)v.kind;
+        set_number(a + 32, 8, v.span);
         break;
     case 21:
         d->tally.records = (uint32_t)number(c + 1, 4);

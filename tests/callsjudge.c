@@ -120,6 +120,17 @@ static void try_tally(struct caller *c, const uint8_t *bytes, size_t len)
     set_tally(c, &kept);
 }
 
+/* A START right after a wave's first cycle: 8b, whatever turn is set. */
+static void early_start(struct caller *c)
+{
+    struct record r = {.stamp = c->d.judge.stamp + 1, .start = 1};
+    uint8_t bytes[RECORD];
+    r.arb = (uint8_t)rng_below(c->g, 16);
+    r.rqst = (uint8_t)rng_chance(c->g, 50);
+    record_write(&r, bytes);
+    piece(c, bytes, RECORD);
+}
+
 /* A judge set raw. Within a wave that has had a START the settings are plain, and the recording
    goes on under them; elsewhere refusals are looked at, and what comes next starts with a RESET. */
 static void try_judge(struct caller *c, unsigned limit, const uint8_t *bytes, size_t len)
@@ -141,6 +152,8 @@ static void try_judge(struct caller *c, unsigned limit, const uint8_t *bytes, si
         return;
     }
     piece(c, bytes, rng_chance(g, 50) ? 0 : rng_below(g, 16));
+    if (kept.rqst1 && !kept.rqst2)
+        early_start(c);
     if (rng_chance(g, 50)) {
         j = some_judge(g, limit);
         set_judge(c, &j);
@@ -170,6 +183,31 @@ static void go_on(struct caller *c, int count)
     }
 }
 
+/* A fresh judge beside a tally that isn't: its first record has no stamp before it, so a breach there
+   tells the tally's span. */
+static void first_records(struct caller *c, unsigned limit)
+{
+    struct tally t = {.records = 1 + rng_below(c->g, 1000)};
+    t.span = rng_next(c->g) % (((uint64_t)1 << 31) * t.records);
+    fresh(c, limit);
+    set_tally(c, &t);
+    go_on(c, 1 + (int)rng_below(c->g, 4));
+}
+
+/* A turn set raw in a wave's first cycle, and a START right behind it. */
+static void raw_turn(struct caller *c, unsigned limit)
+{
+    struct record r = {.stamp = rng_word(c->g), .rqst = 1};
+    struct judge j = some_judge(c->g, limit);
+    uint8_t bytes[RECORD];
+    fresh(c, limit);
+    record_write(&r, bytes);
+    piece(c, bytes, RECORD);
+    j.open = (uint8_t)rng_chance(c->g, 10);
+    set_judge(c, &j);
+    early_start(c);
+}
+
 static void recording(struct caller *c, size_t calls)
 {
     struct rng *g = c->g;
@@ -177,11 +215,16 @@ static void recording(struct caller *c, size_t calls)
     unsigned limit = c->out->len == 0 ? 16 : 1 + rng_below(g, 16);
     uint32_t raw = rng_chance(g, 40) ? 3 : 0;
     maker_start(&m, g, limit);
-    switch (rng_below(g, 4)) {
+    switch (rng_below(g, 6)) {
     case 0: traffic_bus(&m, rng_below(g, 120)); break;
     case 1: traffic_wild(&m, rng_below(g, 120)); break;
-    default: damage(&m, 1 + (int)rng_below(g, 13)); break;
+    case 2: damage(&m, 8, 1 + (int)rng_below(g, KINDS - 1)); break;
+    default: damage(&m, 1 + (int)rng_below(g, 13), 0); break;
     }
+    if (c->out->len > 0 && rng_chance(g, 15))
+        first_records(c, limit);
+    if (c->out->len > 0 && rng_chance(g, 10))
+        raw_turn(c, limit);
     if (limit != 16 || c->out->len > 0) /* at first the judge is fresh, with limit 16 */
         fresh(c, limit);
     for (size_t at = 0; at < m.out.len && !caller_full(c, calls);) {

@@ -19,8 +19,11 @@ static void cover(const uint8_t *c, const uint8_t *a)
     covered.refusals[a[0]]++;
     if (c[0] < 23 && a[0] < 9)
         covered.op_refusal[c[0]][a[0]]++;
-    if (c[0] == 20 && a[0] == 0)
+    if (c[0] == 20 && a[0] == 0) {
         covered.rules[a[1]]++;
+        covered.kinds[a[31]]++;
+        covered.far += (a[32] | a[33] | a[34] | a[35]) != 0;
+    }
     if (c[0] == 9 && a[0] == 0)
         covered.notes[a[6]]++;
 }

@@ -25,6 +25,7 @@ void shrink(const struct subject_program *p, struct buffer *in);
 /* What the answers met so far covered. */
 struct coverage {
     unsigned long calls, skipped, by_op[256], refusals[256], rules[14], notes[4];
+    unsigned long kinds[KINDS], far; /* of rule 8; breaches at a span of 2^32 or more */
     unsigned long op_refusal[23][9];
 };
 extern struct coverage covered;

@@ -106,6 +106,7 @@ void say_call(FILE *to, const uint8_t *c)
 void say_answer(FILE *to, const uint8_t *c, const uint8_t *a)
 {
     static const char *const notes[] = {"none", "short", "extra", "stray"};
+    static const char *const kinds[KINDS] = {"none", "8a", "8b", "8c"};
     if (c[0] == 18) {
         fprintf(to, "copies");
         return;
@@ -133,9 +134,10 @@ void say_answer(FILE *to, const uint8_t *c, const uint8_t *a)
             fprintf(to, " %d", a[5 + i]);
         break;
     case 20:
-        fprintf(to, "rule %d record %llu; records %llu span %llu starts %llu acks %llu aborted "
-                    "%llu open %d", a[1], number(a + 2, 4), number(a + 6, 4), number(a + 10, 8),
-                number(a + 18, 4), number(a + 22, 4), number(a + 26, 4), a[30]);
+        fprintf(to, "rule %d kind %s (%d) record %llu span %llu; records %llu span %llu starts "
+                    "%llu acks %llu aborted %llu open %d", a[1],
+                a[31] < KINDS ? kinds[a[31]] : "?", a[31], number(a + 2, 4), number(a + 32, 8),
+                number(a + 6, 4), number(a + 10, 8), number(a + 18, 4), number(a + 22, 4), number(a + 26, 4), a[30]);
         break;
     }
 }

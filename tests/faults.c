@@ -85,7 +85,7 @@ static void pieces_of(struct rng *g, struct feed feed)
     struct maker m = some_traffic(g, feed.piece < 15 ? 150 : 1500);
     compare("small pieces", m.out.bytes, m.out.len, feed);
     compare("small pieces, a torn end", m.out.bytes, m.out.len - 1 - rng_below(g, 15), feed);
-    damage(&m, 1 + (int)rng_below(g, 13));
+    damage(&m, 1 + (int)rng_below(g, 13), 0);
     compare("small pieces, a breach", m.out.bytes, m.out.len, feed);
     buffer_free(&m.out);
 }

@@ -1,33 +1,34 @@
 /* Golden cases: 01's checked examples with answers written down by hand, not by the model, and
-   small recordings for each rule with a near twin that conforms, and for boot reports.
+   small recordings for each rule with a near twin that conforms, for what a breach tells, and for
+   boot reports.
 
    golden [--judge COMMAND] [--calls COMMAND] [--phases COMMAND] */
 #define _DEFAULT_SOURCE 1
 #include <stdio.h>
+#include <stdlib.h>
 #include <string.h>
 #include "describe.h"
 #include "golden.h"
 
 static unsigned long passed, failed;
 
-/* A call and the bytes of its answer that the paper settles. */
-struct step {
-    const char *name;
-    uint8_t call[CALL], answer[CALL], care[CALL];
-};
-enum { STEPS = 700 };
+enum { STEPS = 900 };
 static struct step steps[STEPS];
 static size_t count;
 
-static void put(uint8_t *b, int at, int bytes, uint64_t v)
+void put(uint8_t *b, int at, int bytes, uint64_t v)
 {
     for (int i = bytes; i-- > 0; v >>= 8)
         b[at + i] = (uint8_t)v;
 }
 
-static struct step *call(const char *name, int op, int refusal)
+struct step *call(const char *name, int op, int refusal)
 {
     struct step *s = &steps[count++];
+    if (count > STEPS) {
+        fprintf(stderr, "more golden calls than there is room for\n");
+        exit(2);
+    }
     memset(s, 0, sizeof *s);
     s->name = name;
     s->call[0] = (uint8_t)op;
@@ -38,7 +39,7 @@ static struct step *call(const char *name, int op, int refusal)
     return s;
 }
 
-static void expect(struct step *s, int at, int bytes, uint64_t v)
+void expect(struct step *s, int at, int bytes, uint64_t v)
 {
     put(s->answer, at, bytes, v);
     memset(s->care + at, 1, (size_t)bytes);
@@ -133,7 +134,7 @@ static void stamps(void)
         expect(s, 2, 4, cases[i].rule ? 1 : 0);
         expect(s, 6, 4, cases[i].rule ? 1 : 2);
         expect(s, 10, 8, cases[i].span);
-        expect(s, 18, 13, 0);
+        expect(s, 18, CALL - 18, 0); /* no START, no kind, and before rule 2 no span */
     }
 }
 
@@ -236,6 +237,7 @@ static void through_calls(const char *command)
     stamps();
     cycles();
     cache();
+    golden_breach_calls();
     for (size_t i = 0; i < count; i++)
         buffer_add(&in, steps[i].call, CALL);
     run_bytes(command, in.bytes, in.len, feed, 60, &r);
@@ -281,9 +283,10 @@ void golden_recording(const char *command, const char *name, const uint8_t *byte
 int main(int argc, char **argv)
 {
     for (int i = 1; i + 1 < argc; i += 2) {
-        if (strcmp(argv[i], "--judge") == 0)
+        if (strcmp(argv[i], "--judge") == 0) {
             golden_rules(argv[i + 1]);
-        else if (strcmp(argv[i], "--calls") == 0)
+            golden_breaches(argv[i + 1]);
+        } else if (strcmp(argv[i], "--calls") == 0)
             through_calls(argv[i + 1]);
         else if (strcmp(argv[i], "--phases") == 0)
             golden_phases(argv[i + 1]);

@@ -1,4 +1,4 @@
-/* Golden recordings for the judging program and the boot report's. */
+/* Golden recordings for the judging program and the boot report's, and golden calls. */
 #ifndef GOLDEN_H
 #define GOLDEN_H
 #include "run.h"
@@ -8,6 +8,23 @@ void golden_recording(const char *command, const char *name, const uint8_t *byte
    R RESET, Q RQST, S START, K ACK, T TM1, t TM0, P SP, V SPV, aN ARB, dN AD (hexadecimal), sN
    spare bits. Gives its bytes. */
 size_t golden_tell(const char *words, uint8_t *bytes);
+/* A recording in those words with the six numbers of the first line and the whole second line. */
+struct judged {
+    const char *name, *records, *totals, *verdict;
+};
+void golden_judged(const char *command, const struct judged *cases, size_t count);
+
+/* A call and the bytes of its answer that the paper settles. */
+struct step {
+    const char *name;
+    uint8_t call[CALL], answer[CALL], care[CALL];
+};
+struct step *call(const char *name, int op, int refusal);
+void put(uint8_t *b, int at, int bytes, uint64_t v);
+void expect(struct step *s, int at, int bytes, uint64_t v);
+
 void golden_rules(const char *command);
+void golden_breaches(const char *command);
+void golden_breach_calls(void);
 void golden_phases(const char *program);
 #endif

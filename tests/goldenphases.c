@@ -46,7 +46,7 @@ static const struct {
     /* 2 and 100h are 102h: an age of 256. */
     {"the last cycle of the watchdog", "16 3/4", WAVE "2 " START_34 "; 102 K T t", FOUND, 0},
     {"past the watchdog", "16 3/4", WAVE "2 " START_34 "; 103 K T t",
-     "records 3\nbreach rule 12 record 3\n", 0},
+     "records 3\nbreach rule 12 record 3 span 259\n", 0},
 
     /* The number is in AD5 to AD2: 4 in AD9 to AD6 is F3000100, and that is number 0. */
     {"the number in AD6", "16 3/4", WAVE "2 S T dF3000100; 4 K T t", NONE_IN_4, 0},
@@ -123,23 +123,24 @@ static const struct {
     /* It stops at the last mark's ACK; before it a breach is told, its record not counted. */
     {"a breach one record behind", "16 3/4", MARK_34 "; 4", FOUND, 0},
     {"a breach one record behind, a mark more", "16 3/4 3/4", MARK_34 "; 4",
-     "mark 0 span 2\nrecords 4\nbreach rule 2 record 4\n", 0},
+     "mark 0 span 2\nrecords 4\nbreach rule 2 record 4 span 4\n", 0},
     {"a breach in the ACK's record", "16 3/4", WAVE "2 " START_34 "; 4 K T t V P",
-     "records 3\nbreach rule 3 record 3\n", 0},
+     "records 3\nbreach rule 3 record 3 span 4\n", 0},
     {"its twin", "16 3/4", WAVE "2 " START_34 "; 4 K T t V", FOUND, 0},
     {"spare bits in the ACK's record", "16 3/4", WAVE "2 " START_34 "; 4 K T t s1",
-     "records 3\nbreach rule 1 record 3\n", 0},
+     "records 3\nbreach rule 1 record 3 span 2\n", 0},
     {"a breach in the START's record", "16 3/4", "0 Q; 1 " START_34 "; 2 K T t",
-     "records 1\nbreach rule 8 record 1\n", 0},
+     "records 1\nbreach rule 8b record 1 span 1\n", 0},
     {"a breach in the first record", "16 3/4", "0 K; 1 Q; 2 Q; 3 " START_34 "; 4 K T t",
-     "records 0\nbreach rule 5 record 0\n", 0},
+     "records 0\nbreach rule 5 record 0 span 0\n", 0},
     {"a torn piece behind", "16 3/4", MARK_34, FOUND, 5},
     {"a torn piece behind, a mark more", "16 3/4 5/6", MARK_34,
      "mark 0 span 2\nrecords 4\nrefused 1\n", 5},
     {"the ACK's record torn", "16 3/4", MARK_34, "records 3\nrefused 1\n", -1},
     {"a torn piece alone", "16 3/4", "0", "records 0\nrefused 1\n", -15},
     /* 1 wins over 10, a breach over 1: the breach comes before the end. */
-    {"a breach, and a torn piece", "16 3/4", WAVE "2 S; 3 K T t; 3", "records 4\nbreach rule 2 record 4\n", 9},
+    {"a breach, and a torn piece", "16 3/4", WAVE "2 S; 3 K T t; 3",
+     "records 4\nbreach rule 2 record 4 span 3\n", 9},
 
     /* Limit 1: the second START at ARB 3 in one wave breaks rule 11; with 2 it doesn't. */
     {"limit 2", "2 3/4 5/6",
@@ -147,7 +148,27 @@ static const struct {
      "mark 0 span 2\nmark 1 span 5 diff 3\nrecords 7\ncomplete\n", 0},
     {"limit 1", "1 3/4 5/6",
      WAVE "2 Q a3 " START_34 "; 3 Q K T t; 4 Q; 5 a3 " START_56 "; 6 K T t",
-     "mark 0 span 2\nrecords 5\nbreach rule 11 record 5\n", 0},
+     "mark 0 span 2\nrecords 5\nbreach rule 11 record 5 span 5\n", 0},
+
+    /* What the breach tells (wish 2), as the judge tells it in goldenbreach.c. */
+    {"8c under limit 1, and 11", "1 3/4", WAVE "2 Q S K T t a7; 3 Q; 4 S a7",
+     "records 4\nbreach rule 8c record 4 span 4\n", 0},
+    {"11 under limit 1, a cycle later", "1 3/4", WAVE "2 Q S K T t a7; 3 Q; 4 Q; 5 S a7",
+     "records 5\nbreach rule 11 record 5 span 5\n", 0},
+    {"8a behind a mark and a RESET", "16 3/4 5/6", MARK_34 "; 5 R; 6 " START_56,
+     "mark 0 span 2\nrecords 5\nbreach rule 8a record 5 span 6\n", 0},
+    {"8b behind a mark", "16 3/4 5/6", MARK_34 "; 5 Q; 6 " START_56,
+     "mark 0 span 2\nrecords 5\nbreach rule 8b record 5 span 6\n", 0},
+    {"8c behind a mark", "16 3/4 5/6", WAVE "2 Q " START_34 "; 3 Q K T t; 4 " START_56,
+     "mark 0 span 2\nrecords 4\nbreach rule 8c record 4 span 4\n", 0},
+    {"8a over a wrap", "16 3/4", "FFFFFFFE; 3 " START_34,
+     "records 1\nbreach rule 8a record 1 span 5\n", 0},
+    {"5 at a span over 2^32", "16 3/4", "0; 80000000; 0; 1 K",
+     "records 3\nbreach rule 5 record 3 span 4294967297\n", 0},
+    {"9 in a gap behind a mark", "16 3/4 5/6", MARK_34 "; 5 Q; 15 Q",
+     "mark 0 span 2\nrecords 5\nbreach rule 9 record 5 span 21\n", 0},
+    {"1 behind a gap tells the span before it", "16 3/4 5/6", MARK_34 "; 5; 15 s1",
+     "mark 0 span 2\nrecords 5\nbreach rule 1 record 5 span 5\n", 0},
 };
 
 static void one(const char *program, const char *name, const char *words, const uint8_t *bytes,

@@ -1,5 +1,5 @@
-/* The judge of recordings (01, "The judge"). Each rule is worked out by itself from the state
-   before the record and the record; the lowest broken one is told. */
+/* The judge of recordings (01, "The judge"; 02, wish 2). Each rule is worked out by itself from the
+   state before the record and the record; the lowest broken one is told. */
 #include <stdio.h>
 #include "spur.h"
 
@@ -45,14 +45,24 @@ static struct view look(const struct judge *j, const struct record *r)
     return v;
 }
 
-/* Rule 8, and the distance to the wave's last START. */
-static int too_early(const struct judge *j, const struct view *v)
+/* Rule 8 in the three parts that document 02's wish 2 makes of it, bit k for kind k. No recording
+   breaks the second and the third at once; a state might, and then the second is told. */
+static uint32_t too_early(const struct judge *j, const struct view *v)
 {
-    if (v->parked)
-        return !j->started;
-    if (v->of_wave)
-        return !v->rqst2 || (j->turn > 0 && j->since + 1 < 3);
-    return 0;
+    uint32_t kinds = 0;
+    if (v->parked && !j->started)
+        kinds |= 1u << NO_OWNER;
+    if (v->of_wave && !v->rqst2)
+        kinds |= 1u << TOO_FEW;
+    if (v->of_wave && j->turn > 0 && j->since + 1 < 3)
+        kinds |= 1u << TOO_SOON;
+    return kinds;
+}
+
+uint32_t judge_early(const struct judge *j, const struct record *r)
+{
+    struct view v = look(j, r);
+    return r->reset ? 0 : too_early(j, &v);
 }
 
 /* Rule 9: RQST may fall only in a cycle with START; a missing cycle has none. */
@@ -95,7 +105,7 @@ uint32_t judge_broken(const struct judge *j, const struct record *r, unsigned sp
         broken |= 1u << 6;
     if (r->start && !r->ack && code_decode(&op, r->tm1, r->tm0, r->ad) != 0)
         broken |= 1u << 7;
-    if (too_early(j, &v))
+    if (too_early(j, &v) != 0)
         broken |= 1u << 8;
     if (fell(j, r, &v))
         broken |= 1u << 9;
@@ -180,49 +190,64 @@ void judge_take(struct judge *j, struct tally *t, const struct record *r)
     j->stamp = r->stamp;
 }
 
+/* "The breach also tells the span at its record; at record 0 or a breach of rule 1 or 2 it is the
+   tally's" (document 02, wish 2). Missing cycles count, also those that broke the rule. */
+static struct verdict breach(const struct judge *j, const struct tally *t, const struct record *r,
+                             int rule)
+{
+    struct verdict v = {.rule = rule, .record = t->records, .span = t->span};
+    if (rule == 8)
+        v.kind = judge_lowest(judge_early(j, r));
+    if (rule > 2)
+        v.span += look(j, r).diff; /* 0 without a stamp before it */
+    return v;
+}
+
 /* Judges one record of 16 bytes and takes it if no rule is broken. */
-int judge_one(struct judge *j, struct tally *t, const uint8_t *bytes)
+struct verdict judge_one(struct judge *j, struct tally *t, const uint8_t *bytes)
 {
     struct record r;
     unsigned spare = record_read(&r, bytes);
     int rule = judge_lowest(judge_broken(j, &r, spare));
-    if (rule == 0)
-        judge_take(j, t, &r);
-    return rule;
+    if (rule != 0)
+        return breach(j, t, &r, rule);
+    judge_take(j, t, &r);
+    return NO_BREACH;
 }
 
 /* Refusals in the order 5, 8, 1; else judged up to the first breach. */
 int judge_recording(struct judge *j, struct tally *t, const uint8_t *bytes, size_t len,
                     struct verdict *v)
 {
-    *v = (struct verdict){0, 0};
+    *v = NO_BREACH;
     if (!judge_bounds(j, t))
         return 5;
     if (t->records + (uint64_t)(len / RECORD) > MOST_RECORDS)
         return 8;
     if (len % RECORD != 0)
         return 1;
-    for (size_t at = 0; at < len; at += RECORD) {
-        int rule = judge_one(j, t, bytes + at);
-        if (rule != 0) {
-            v->rule = rule;
-            v->record = t->records;
-            return 0;
-        }
-    }
+    for (size_t at = 0; at < len && v->rule == 0; at += RECORD)
+        *v = judge_one(j, t, bytes + at);
     return 0;
 }
 
+/* The line of a breach, rule 8 with its kind's letter (document 02, wish 2). */
+void judge_breach_line(struct verdict v, char *text, size_t room)
+{
+    static const char *const letters[KINDS] = {"", "a", "b", "c"};
+    snprintf(text, room, "breach rule %d%s record %lu span %llu\n", v.rule, letters[v.kind],
+             (unsigned long)v.record, (unsigned long long)v.span);
+}
+
 /* The judging program's two lines (01, "Checked examples", its end). */
-void judge_text(const struct tally *t, int open, int rule, int refusal, char *text)
+void judge_text(const struct tally *t, int open, struct verdict v, int refusal, char *text)
 {
     int n = snprintf(text, TEXT, "records %lu span %llu starts %lu acks %lu aborted %lu open %d\n",
                      (unsigned long)t->records, (unsigned long long)t->span,
                      (unsigned long)t->starts, (unsigned long)t->acks, (unsigned long)t->aborted,
                      open);
-    if (rule != 0)
-        snprintf(text + n, TEXT - (size_t)n, "breach rule %d record %lu\n", rule,
-                 (unsigned long)t->records);
+    if (v.rule != 0)
+        judge_breach_line(v, text + n, TEXT - (size_t)n);
     else if (refusal != 0)
         snprintf(text + n, TEXT - (size_t)n, "refused %d\n", refusal);
     else
@@ -243,14 +268,14 @@ int judge_program(unsigned limit, const uint8_t *bytes, size_t len, char *text)
             refusal = 8;
             break;
         }
-        int rule = judge_one(&j, &t, bytes + at);
-        if (rule != 0) {
-            judge_text(&t, j.open, rule, 0, text);
+        struct verdict v = judge_one(&j, &t, bytes + at);
+        if (v.rule != 0) {
+            judge_text(&t, j.open, v, 0, text);
             return 1;
         }
     }
     if (refusal == 0 && len % RECORD != 0)
         refusal = 1;
-    judge_text(&t, j.open, 0, refusal, text);
+    judge_text(&t, j.open, NO_BREACH, refusal, text);
     return refusal != 0 ? 2 : 0;
 }

@@ -60,7 +60,7 @@ static void recordings(struct rng *g, unsigned limit, int rule)
     if (rule == 0)
         traffic_bus(&m, 60 * limit);
     else
-        damage(&m, rule);
+        damage(&m, rule, 0);
     for (unsigned near = limit > 1 ? limit - 1 : 1; near <= limit + 1 && near <= 16; near++)
         compare(rule == 0 ? "sound traffic" : "a breach", &m.out, near);
     buffer_free(&m.out);

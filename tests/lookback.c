@@ -1,14 +1,17 @@
 /* The judge's rules a second time, said of the recording alone: every cycle stands in an array,
-   missing ones included, and what came before is found by looking back. It is slow, for short
-   recordings with short gaps, and serves to check the model's judge (01, "The judge"). */
+   missing ones included, and what came before is found by looking back; spans are found by counting
+   the stamps' wraps. It is slow, for short recordings, and serves to check the model's judge (01,
+   "The judge"; 02, wish 2). */
 #include <stdlib.h>
 #include "lookback.h"
 
 struct cycles {
     struct record *at; /* cycle n's lines */
     long *record;      /* the record told in cycle n, or -1 */
-    long count;
 };
+/* Of more missing cycles than these only so many stand in the array. No rule sees it: a transfer
+   open before them is over age, a wave has fallen, and its STARTs are long past. */
+enum { LONG_GAP = 600, MOST = 60000 };
 
 static int is_open_start(const struct record *r)
 {
@@ -65,18 +68,38 @@ static long last_wave_start(const struct cycles *c, long n, long begin)
     return -1;
 }
 
-static int rule_8(const struct cycles *c, long n)
+/* 8a: a START without RQST in the cycle before, and no wave's START back to the reset. */
+static int parked_by_nobody(const struct cycles *c, long n)
 {
-    if (!c->at[n].start)
+    if (!c->at[n].start || rqst(c, n - 1))
         return 0;
-    if (!rqst(c, n - 1)) {
-        for (long k = last_reset(c, n) + 1; k < n; k++)
-            if (wave_start(c, k))
-                return 0;
-        return 1;
-    }
+    for (long k = last_reset(c, n) + 1; k < n; k++)
+        if (wave_start(c, k))
+            return 0;
+    return 1;
+}
+
+/* 8b: the wave began in the cycle before the START. */
+static int too_few(const struct cycles *c, long n)
+{
+    return wave_start(c, n) && wave_begin(c, n) == n - 1;
+}
+
+/* 8c: of the two cycles before the START, one had a START of the same wave. That is never so with
+   8b, whose wave has no cycle in which it could have had one. */
+static int too_soon(const struct cycles *c, long n)
+{
+    if (!wave_start(c, n))
+        return 0;
     long last = last_wave_start(c, n, wave_begin(c, n));
-    return !rqst(c, n - 2) || (last >= 0 && n - last < 3);
+    return last == n - 1 || (last >= 0 && last == n - 2);
+}
+
+static int kind_of(const struct cycles *c, long n)
+{
+    if (parked_by_nobody(c, n))
+        return NO_OWNER;
+    return too_few(c, n) ? TOO_FEW : too_soon(c, n) ? TOO_SOON : 0;
 }
 
 static int rule_11(const struct cycles *c, long n, unsigned limit)
@@ -128,7 +151,7 @@ static int lowest(const struct cycles *c, long n, unsigned limit)
         return 6;
     if (r->start && !r->ack && code_decode(&op, r->tm1, r->tm0, r->ad) != 0)
         return 7;
-    if (rule_8(c, n))
+    if (kind_of(c, n) != 0)
         return 8;
     if (rqst(c, n - 1) && !r->rqst && !r->start)
         return 9;
@@ -157,7 +180,6 @@ static void count(const struct cycles *c, long until, struct tally *t, int *open
         if (c->record[n] < 0)
             continue;
         t->records++;
-        t->span = (uint64_t)n;
         t->aborted += r->reset && opener(c, n) >= 0;
         t->starts += !r->reset && r->start;
         t->acks += !r->reset && r->ack;
@@ -170,46 +192,86 @@ static void count(const struct cycles *c, long until, struct tally *t, int *open
                                        (!c->at[last].ack && opener(c, last) >= 0));
 }
 
-/* Judges the recording; gives 0 if it is too long or wide for this form. */
+static uint32_t stamp_of(const uint8_t *bytes, size_t record)
+{
+    const uint8_t *b = bytes + record * RECORD;
+    return (uint32_t)b[0] << 24 | (uint32_t)b[1] << 16 | (uint32_t)b[2] << 8 | b[3];
+}
+
+/* The cycles from the first record to the last of so many: a stamp below the one before it has
+   wrapped, and once only, as no difference is over 2^31. */
+static uint64_t span_of(const uint8_t *bytes, size_t records)
+{
+    uint64_t wraps = 0;
+    for (size_t i = 1; i < records; i++)
+        wraps += stamp_of(bytes, i) < stamp_of(bytes, i - 1);
+    return records == 0 ? 0 : (wraps << 32) + stamp_of(bytes, records - 1) - stamp_of(bytes, 0);
+}
+
+/* Rules 1 and 2, said of the bytes. */
+static int rule_1_or_2(const uint8_t *bytes, size_t record)
+{
+    const uint8_t *b = bytes + record * RECORD;
+    if ((b[14] & 0x7F) != 0 || b[15] != 0)
+        return 1;
+    if (record == 0)
+        return 0;
+    uint32_t apart = stamp_of(bytes, record) - stamp_of(bytes, record - 1);
+    return apart == 0 || apart > (uint32_t)1 << 31 ? 2 : 0;
+}
+
+/* Puts a record behind the cycles so far; gives its cycle, or -1 if there is no room. */
+static long place(struct cycles *c, const uint8_t *bytes, size_t record, long until)
+{
+    uint32_t apart = record == 0 ? 1 : stamp_of(bytes, record) - stamp_of(bytes, record - 1);
+    long n = until - 1 + (long)(apart < LONG_GAP ? apart : LONG_GAP);
+    if (n >= MOST)
+        return -1;
+    for (long k = until; k < n; k++)
+        c->record[k] = -1;
+    record_read(&c->at[n], bytes + record * RECORD);
+    c->record[n] = (long)record;
+    return n;
+}
+
+/* The first breach, if any; gives the cycles before it, or -1 if there is no room for all. */
+static long first_breach(struct cycles *c, const uint8_t *bytes, size_t records, unsigned limit,
+                         struct verdict *v)
+{
+    long until = 0;
+    for (size_t i = 0; i < records; i++, until++) {
+        int rule = rule_1_or_2(bytes, i);
+        if (rule != 0) {
+            *v = (struct verdict){rule, 0, (uint32_t)i, span_of(bytes, i)};
+            return until;
+        }
+        long n = place(c, bytes, i, until);
+        if (n < 0)
+            return -1;
+        rule = lowest(c, n, limit);
+        if (rule != 0) {
+            *v = (struct verdict){rule, rule == 8 ? kind_of(c, n) : 0, (uint32_t)i,
+                                  span_of(bytes, i + 1)};
+            return until;
+        }
+        until = n;
+    }
+    return until;
+}
+
+/* Judges the recording; gives 0 if it is too long for this form. */
 int lookback_judge(const uint8_t *bytes, size_t len, unsigned limit, struct lookback *out)
 {
-    enum { MOST = 20000 };
-    struct cycles c = {calloc(MOST, sizeof *c.at), calloc(MOST, sizeof *c.record), 0};
-    uint32_t first = 0, before = 0;
-    int rule = 0, fits = c.at != NULL && c.record != NULL;
-    long n = 0, until = 0;
-    for (size_t i = 0; i < len / RECORD && fits && rule == 0; i++) {
-        struct record r;
-        if (record_read(&r, bytes + i * RECORD) != 0) {
-            rule = 1;
-            break;
-        }
-        if (i == 0)
-            first = before = r.stamp;
-        else if (r.stamp - before == 0 || r.stamp - before > (uint32_t)1 << 31) {
-            rule = 2;
-            break;
-        }
-        if (r.stamp - first >= MOST) {
-            fits = 0;
-            break;
-        }
-        n = (long)(r.stamp - first);
-        for (long k = until; k < n; k++)
-            c.record[k] = -1;
-        c.at[n] = r;
-        c.record[n] = (long)i;
-        rule = lowest(&c, n, limit);
-        if (rule == 0) {
-            until = n + 1;
-            before = r.stamp;
-        }
-    }
-    if (fits) {
-        out->rule = rule;
+    struct cycles c = {calloc(MOST, sizeof *c.at), calloc(MOST, sizeof *c.record)};
+    *out = (struct lookback){0};
+    if (c.at == NULL || c.record == NULL)
+        exit(2);
+    long until = first_breach(&c, bytes, len / RECORD, limit, &out->v);
+    if (until >= 0) {
         count(&c, until, &out->t, &out->open);
+        out->t.span = span_of(bytes, out->t.records);
     }
     free(c.at);
     free(c.record);
-    return fits;
+    return until >= 0;
 }

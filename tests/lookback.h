@@ -3,8 +3,9 @@
 #define LOOKBACK_H
 #include "spur.h"
 struct lookback {
-    int rule, open;
+    struct verdict v;
     struct tally t;
+    int open;
 };
 int lookback_judge(const uint8_t *bytes, size_t len, unsigned limit, struct lookback *out);
 #endif

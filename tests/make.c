@@ -87,3 +87,23 @@ uint32_t maker_try(struct maker *m, const struct record *r, unsigned spare)
     }
     return broken;
 }
+
+int never_both(const struct buffer *in, unsigned limit)
+{
+    const uint32_t both = 1u << TOO_FEW | 1u << TOO_SOON;
+    struct judge j;
+    struct tally t = {0};
+    judge_fresh(&j, limit);
+    for (size_t at = 0; at + RECORD <= in->len; at += RECORD) {
+        struct record r, next = {.start = 1};
+        record_read(&r, in->bytes + at);
+        if ((judge_early(&j, &r) & both) == both)
+            return 0;
+        if (judge_one(&j, &t, in->bytes + at).rule != 0)
+            return 1;
+        next.stamp = j.stamp + 1;
+        if ((judge_early(&j, &next) & both) == both)
+            return 0;
+    }
+    return 1;
+}

@@ -38,10 +38,16 @@ void traffic_boot(struct maker *m, size_t records);
 void traffic_wild(struct maker *m, size_t records);
 void wild_propose(struct maker *m, struct record *r, unsigned *spare, unsigned chaos);
 int wild_setup(struct maker *m, int rule); /* brings the judge near the rule; 1 if it could */
+int wild_early(struct maker *m, int kind); /* near the kind of rule 8 */
+void wild_far(struct maker *m, uint32_t records); /* each as far from the last as rule 2 allows */
 void noise(struct rng *g, struct record *r);
 
-/* A recording whose first breach is of the rule; gives all rules broken there. */
-uint32_t damage(struct maker *m, int rule);
+/* A recording whose first breach is of the rule, of rule 8 of the kind (0 for any); gives all rules
+   broken there. */
+uint32_t damage(struct maker *m, int rule, int kind);
+/* No record up to the first breach breaks 8b and 8c at once, nor would a START in the cycle after
+   any of them (document 02, wish 2). */
+int never_both(const struct buffer *in, unsigned limit);
 
 /* Calls for the driver program, by subject. */
 enum subject { CODES, RECORDS, BUS, CACHE, JUDGE, ANY, EVERY_CODE, SUBJECTS };

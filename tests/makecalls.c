@@ -1,8 +1,8 @@
 /* Writes a list of calls for the driver program to standard output:
 
    makecalls mixed CALLS SEED     so many or a few more for each of codes, records, bus, cache, judge
-   makecalls damaged COUNT SEED   for each rule so many recordings that break it first, each to a
-                                  fresh judge, three records a call
+   makecalls damaged COUNT SEED   for each rule, and each kind of rule 8, so many recordings that
+                                  break it first, each to a fresh judge, three records a call
 
    A call whose answer the paper leaves to the build is left out, so every answer may be compared. */
 #include <stdio.h>
@@ -21,11 +21,11 @@ static void mixed(struct buffer *all, struct rng *g, unsigned long calls)
     }
 }
 
-static void damaged(struct buffer *all, struct rng *g, int rule)
+static void damaged(struct buffer *all, struct rng *g, int rule, int kind)
 {
     struct maker m;
     maker_start(&m, g, 16);
-    damage(&m, rule);
+    damage(&m, rule, kind);
     buffer_add(all, (const uint8_t[CALL]){19, 16}, CALL);
     for (size_t at = 0; at < m.out.len; at += 3 * RECORD) {
         size_t n = m.out.len - at < 3 * RECORD ? m.out.len - at : 3 * RECORD;
@@ -47,7 +47,8 @@ int main(int argc, char **argv)
     } else if (count > 0 && strcmp(argv[1], "damaged") == 0) {
         for (unsigned long i = 0; i < count; i++)
             for (int rule = 1; rule <= 13; rule++)
-                damaged(&all, &g, rule);
+                for (int kind = rule == 8; kind < (rule == 8 ? KINDS : 1); kind++)
+                    damaged(&all, &g, rule, kind);
     } else {
         fprintf(stderr, "makecalls mixed CALLS SEED | damaged COUNT SEED\n");
         return 2;

@@ -1,7 +1,8 @@
 /* Writes a recording to standard output:
 
    makerec boot RECORDS          a boot-like run that conforms
-   makerec breach RECORDS RULE   the same, with a record two thirds on that breaks the rule
+   makerec breach RECORDS RULE   the same, with a record two thirds on that breaks the rule; a RULE
+                                 of 8a, 8b or 8c is that kind of rule 8
    makerec phases RECORDS        a boot with marks (02, wish 1), and rule 8 broken behind them
    makerec marked CROWD SEED S/N ..
                                  the marks in order, before each up to CROWD that are nearly marks,
@@ -16,8 +17,9 @@
 #include <string.h>
 #include "marked.h"
 
-/* A boot with one record changed so that it breaks the rule, and no lower one. */
-static int break_boot(struct maker *m, int rule)
+/* A boot with one record changed so that it breaks the rule, and no lower one; of rule 8 the kind,
+   0 for any. */
+static int break_boot(struct maker *m, int rule, int kind)
 {
     struct judge j;
     struct tally t = {0};
@@ -37,7 +39,8 @@ static int break_boot(struct maker *m, int rule)
             case 5: r.arb = (uint8_t)rng_below(m->g, 16); break;
             case 6: r.stamp += 1 + rng_below(m->g, 400); break;
             }
-            if (judge_lowest(judge_broken(&j, &r, spare)) == rule) {
+            if (judge_lowest(judge_broken(&j, &r, spare)) == rule &&
+                (kind == 0 || judge_lowest(judge_early(&j, &r)) == kind)) {
                 record_write(&r, at);
                 return 1;
             }
@@ -122,6 +125,15 @@ static int put_marks(struct maker *m, char **words, size_t count, unsigned crowd
     return 1;
 }
 
+/* The rule that a word names, 0 if it names none; 8a, 8b and 8c are rule 8 with its kind. */
+static int rule_of(const char *word, int *kind)
+{
+    char *end;
+    unsigned long rule = strtoul(word, &end, 10);
+    *kind = rule == 8 && *end >= 'a' && *end <= 'c' ? *end++ - 'a' + NO_OWNER : 0;
+    return *end == '\0' && rule >= 1 && rule <= 13 ? (int)rule : 0;
+}
+
 int main(int argc, char **argv)
 {
     struct rng g = {19861023};
@@ -129,18 +141,19 @@ int main(int argc, char **argv)
     unsigned long a = argc > 2 ? strtoul(argv[2], NULL, 0) : 0;
     unsigned long b = argc > 3 ? strtoul(argv[3], NULL, 0) : 0;
     const char *what = argc > 2 ? argv[1] : "";
+    int kind = 0, rule = argc > 3 ? rule_of(argv[strcmp(what, "damage") == 0 ? 2 : 3], &kind) : 0;
     maker_start(&m, &g, 16);
     if (strcmp(what, "boot") == 0) {
         traffic_boot(&m, a);
-    } else if (strcmp(what, "breach") == 0 && b >= 1 && b <= 13) {
+    } else if (strcmp(what, "breach") == 0 && rule > 0) {
         traffic_boot(&m, a);
-        if (!break_boot(&m, (int)b)) {
+        if (!break_boot(&m, rule, kind)) {
             fprintf(stderr, "that rule could not be broken there\n");
             return 2;
         }
     } else if (strcmp(what, "phases") == 0) {
         traffic_boot(&m, a);
-        if (!put_writes(&m) || !break_boot(&m, 8)) {
+        if (!put_writes(&m) || !break_boot(&m, 8, 0)) {
             fprintf(stderr, "that boot is too short\n");
             return 2;
         }
@@ -156,9 +169,9 @@ int main(int argc, char **argv)
     } else if (strcmp(what, "wild") == 0) {
         g.state = b;
         traffic_wild(&m, a);
-    } else if (strcmp(what, "damage") == 0 && a >= 1 && a <= 13) {
+    } else if (strcmp(what, "damage") == 0 && rule > 0) {
         g.state = b;
-        damage(&m, (int)a);
+        damage(&m, rule, kind);
     } else {
         fprintf(stderr, "makerec boot RECORDS | breach RECORDS RULE | phases RECORDS | "
                         "marked CROWD SEED S/N .. | sound RECORDS SEED | wild RECORDS SEED | "

@@ -37,12 +37,12 @@ static int is_write_of(const struct mark *mark, const struct record *r)
 }
 
 /* "It counts from its START, once its ACK is seen"; a RESET aborts the write. */
-int report_one(struct report *p, const uint8_t *bytes)
+struct verdict report_one(struct report *p, const uint8_t *bytes)
 {
     struct record r;
-    int rule = judge_one(&p->j, &p->t, bytes);
-    if (rule != 0)
-        return rule;
+    struct verdict v = judge_one(&p->j, &p->t, bytes);
+    if (v.rule != 0)
+        return v;
     record_read(&r, bytes);
     if (r.reset) {
         p->pending = 0;
@@ -57,12 +57,12 @@ int report_one(struct report *p, const uint8_t *bytes)
         }
         p->pending = 0;
     }
-    return 0;
+    return v;
 }
 
 /* "The span at each mark and, from the second on, the difference to the one before", the records
    read, and what ended it; 10, "a mark absent at a conforming end, with its place, last". */
-void report_text(const struct report *p, int rule, int refusal, char *text)
+void report_text(const struct report *p, struct verdict v, int refusal, char *text)
 {
     int n = 0;
     for (size_t i = 0; i < p->reached; i++) {
@@ -76,9 +76,8 @@ void report_text(const struct report *p, int rule, int refusal, char *text)
     n += snprintf(text + n, REPORT_TEXT - (size_t)n, "records %lu\n", (unsigned long)p->t.records);
     if (report_complete(p))
         snprintf(text + n, REPORT_TEXT - (size_t)n, "complete\n");
-    else if (rule != 0)
-        snprintf(text + n, REPORT_TEXT - (size_t)n, "breach rule %d record %lu\n", rule,
-                 (unsigned long)p->t.records);
+    else if (v.rule != 0)
+        judge_breach_line(v, text + n, REPORT_TEXT - (size_t)n);
     else if (refusal != 0)
         snprintf(text + n, REPORT_TEXT - (size_t)n, "refused %d\n", refusal);
     else
@@ -90,18 +89,19 @@ void report_program(unsigned limit, const struct mark *marks, size_t count, cons
                     size_t len, char *text)
 {
     struct report p;
-    int refusal = report_fresh(&p, limit, marks, count), rule = 0;
+    struct verdict v = NO_BREACH;
+    int refusal = report_fresh(&p, limit, marks, count);
     size_t at = 0;
     if (refusal != 0) {
         snprintf(text, REPORT_TEXT, "refused %d\n", refusal);
         return;
     }
-    for (; rule == 0 && !report_complete(&p) && len - at >= RECORD; at += RECORD) {
+    for (; v.rule == 0 && !report_complete(&p) && len - at >= RECORD; at += RECORD) {
         if (p.t.records == MOST_RECORDS) {
-            report_text(&p, 0, 8, text);
+            report_text(&p, NO_BREACH, 8, text);
             return;
         }
-        rule = report_one(&p, bytes + at);
+        v = report_one(&p, bytes + at);
     }
-    report_text(&p, rule, len % RECORD != 0 ? 1 : 0, text);
+    report_text(&p, v, len % RECORD != 0 ? 1 : 0, text);
 }

@@ -20,10 +20,10 @@ struct report {
 /* Gives the refusal, 0 for none. */
 int report_fresh(struct report *p, unsigned limit, const struct mark *marks, size_t count);
 int report_complete(const struct report *p);
-/* Takes one record of 16 bytes while the report isn't complete, and gives the rule that it breaks. */
-int report_one(struct report *p, const uint8_t *bytes);
-/* The lines for what has been taken: a rule or a refusal stopped it, or the end came. */
-void report_text(const struct report *p, int rule, int refusal, char *text);
+/* Takes one record of 16 bytes while the report isn't complete, and gives what it breaks. */
+struct verdict report_one(struct report *p, const uint8_t *bytes);
+/* The lines for what has been taken: a breach or a refusal stopped it, or the end came. */
+void report_text(const struct report *p, struct verdict v, int refusal, char *text);
 /* What the program prints for a whole input; REPORT_TEXT is enough room. */
 void report_program(unsigned limit, const struct mark *marks, size_t count, const uint8_t *bytes,
                     size_t len, char *text);

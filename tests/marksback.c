@@ -1,14 +1,15 @@
 /* The boot report a second time, straight from its definition over the whole recording: the judge
    says how many records conform, each record's cycle is found by counting the stamp's wraps, and a
-   mark is looked for among the records as lines, without the decoder. It serves to check the
-   model's report (document 02, wish 1). */
+   mark is looked for among the records as lines, without the decoder. Of a breach the judge says
+   the rule alone; its kind and span are found over the recording too. It serves to check the model's
+   report (document 02, wishes 1 and 2). */
 #include <stdio.h>
 #include <stdlib.h>
 #include "marks.h"
 
 struct seen {
     struct record *at;
-    size_t count; /* the records that conform, those before the first breach */
+    size_t count; /* the records that conform; that of the first breach is behind them */
 };
 enum { NOT_THERE = -1 };
 
@@ -60,9 +61,32 @@ static struct seen see(unsigned limit, const uint8_t *bytes, size_t len, struct 
     judge_fresh(&j, limit);
     judge_recording(&j, &t, bytes, len - len % RECORD, v);
     s.count = t.records;
-    for (size_t i = 0; i < s.count; i++)
+    for (size_t i = 0; i < s.count + (v->rule != 0); i++)
         record_read(&s.at[i], bytes + i * RECORD);
     return s;
+}
+
+/* RQST so many cycles before record i's: of the record whose cycle that is, if there is one. */
+static int rqst_before(const struct seen *s, long i, unsigned long long cycles)
+{
+    for (long k = i - 1; k >= 0 && cycle_of(s, i) - cycle_of(s, k) <= cycles; k--)
+        if (cycle_of(s, i) - cycle_of(s, k) == cycles)
+            return s->at[k].rqst && !s->at[k].reset;
+    return 0;
+}
+
+/* A START that breaks rule 8: its kind shows in RQST in the two cycles before it. */
+static const char *letter_of(const struct seen *s, long i)
+{
+    return !rqst_before(s, i, 1) ? "a" : !rqst_before(s, i, 2) ? "b" : "c";
+}
+
+/* The line of the breach, whose record is behind those that conform. */
+static void say_breach(const struct seen *s, int rule, char *text)
+{
+    long i = (long)s->count, told = rule < 3 && i > 0 ? i - 1 : i;
+    sprintf(text, "breach rule %d%s record %ld span %llu\n", rule,
+            rule == 8 ? letter_of(s, i) : "", i, cycle_of(s, told));
 }
 
 /* What is said where a mark is absent. */
@@ -71,7 +95,7 @@ static void say_absent(const struct seen *s, const struct verdict *v, size_t len
 {
     int n = sprintf(text, "records %lu\n", (unsigned long)s->count);
     if (v->rule != 0)
-        sprintf(text + n, "breach rule %d record %lu\n", v->rule, (unsigned long)v->record);
+        say_breach(s, v->rule, text + n);
     else if (len % RECORD != 0)
         sprintf(text + n, "refused 1\n");
     else

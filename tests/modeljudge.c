@@ -20,11 +20,11 @@ static int print(const char *text)
     return 1;
 }
 
-static int say(const struct tally *t, int open, int rule, int refusal)
+static int say(const struct tally *t, int open, struct verdict v, int refusal)
 {
     char text[TEXT];
-    judge_text(t, open, rule, refusal, text);
-    return !print(text) ? 3 : rule != 0 ? 1 : refusal != 0 ? 2 : 0;
+    judge_text(t, open, v, refusal, text);
+    return !print(text) ? 3 : v.rule != 0 ? 1 : refusal != 0 ? 2 : 0;
 }
 
 /* A decimal number of any length, and 17 for all that are over 16; -1 if it is none. */
@@ -58,15 +58,15 @@ int main(int argc, char **argv)
             return 3;
         }
         if (n == 0)
-            return say(&t, j.open, 0, have != 0 ? 1 : 0);
+            return say(&t, j.open, NO_BREACH, have != 0 ? 1 : 0);
         have += (size_t)n;
         size_t at = 0;
         for (; have - at >= RECORD; at += RECORD) {
             if (t.records == MOST_RECORDS)
-                return say(&t, j.open, 0, 8);
-            int rule = judge_one(&j, &t, in + at);
-            if (rule != 0)
-                return say(&t, j.open, rule, 0);
+                return say(&t, j.open, NO_BREACH, 8);
+            struct verdict v = judge_one(&j, &t, in + at);
+            if (v.rule != 0)
+                return say(&t, j.open, v, 0);
         }
         memmove(in, in + at, have - at);
         have -= at;

@@ -20,10 +20,10 @@ static int print(const char *text)
     return 0;
 }
 
-static int say(const struct report *p, int rule, int refusal)
+static int say(const struct report *p, struct verdict v, int refusal)
 {
     char text[REPORT_TEXT];
-    report_text(p, rule, refusal, text);
+    report_text(p, v, refusal, text);
     return print(text);
 }
 
@@ -61,15 +61,15 @@ static int over_input(struct report *p)
             return 0;
         }
         if (n == 0)
-            return say(p, 0, have != 0 ? 1 : 0);
+            return say(p, NO_BREACH, have != 0 ? 1 : 0);
         have += (size_t)n;
         size_t at = 0;
         for (; have - at >= RECORD; at += RECORD) {
             if (p->t.records == MOST_RECORDS)
-                return say(p, 0, 8);
-            int rule = report_one(p, in + at);
-            if (rule != 0 || report_complete(p))
-                return say(p, rule, 0);
+                return say(p, NO_BREACH, 8);
+            struct verdict v = report_one(p, in + at);
+            if (v.rule != 0 || report_complete(p))
+                return say(p, v, 0);
         }
         memmove(in, in + at, have - at);
         have -= at;

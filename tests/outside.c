@@ -4,9 +4,10 @@
            [--first] [--unshrunk]
 
    A command is one string for the shell. Without --seed there are two passes, with the fixed
-   seed and with a fresh one. N is the share: N damaged recordings for each of the thirteen rules,
-   5 N sound ones and N/10 lists of 3,000 calls for each subject (twice as many for the bus and the
-   judge), in each pass; with the fixed seed also every code and every contest. With --status the
+   seed and with a fresh one. N is the share: N damaged recordings for each of the thirteen rules
+   (N for each of rule 8's three kinds), 5 N sound ones and N/10 lists of 3,000 calls for each subject
+   (twice as many for the bus and the judge), in each pass; with the fixed seed also every code and
+   every contest. With --status the
    judging program's exit status is to be 0, 1 or 2 by its verdict; with --first the run ends at
    the first disagreement; with --unshrunk it is told as it was found. */
 #define _DEFAULT_SOURCE 1
@@ -17,14 +18,14 @@
 #include <unistd.h>
 #include "compare.h"
 
-enum { CALLS_A_LIST = 3000, FIXED_SEED = 19861023, MOST_REPORTS = 5, MOST_LINES = 30 };
+enum { CALLS_A_LIST = 3000, FIXED_SEED = 19861023, MOST_REPORTS = 5, MOST_LINES = 30, ENOUGH = 10 };
 
 static struct {
     const char *judge, *calls;
     int count, statuses, seconds, first, unshrunk;
 } options = {.count = 50, .seconds = 60};
 static unsigned long passed, failed;
-static unsigned long broken_first[14], at_once, recordings;
+static unsigned long broken_first[14], kinds[KINDS], wrapped, far, at_once, recordings;
 
 static void report(const struct subject_program *p, struct buffer *in, const char *what,
                    unsigned long seed)
@@ -73,36 +74,57 @@ static void one_recording(struct rng *g, struct buffer *in, const char *what, un
         buffer_add(in, piece, 1 + rng_below(g, 15));
     }
     recordings++;
+    if (!never_both(in, NO_LIMIT_GIVEN)) {
+        printf("a START breaks 8b and 8c at once: %s, seed %lu\n", what, seed);
+        failed++;
+    }
     if (disagree(&p, in, NULL) < 0)
         passed++;
     else
         report(&p, in, what, seed);
 }
 
-/* N damaged recordings for each rule; the model itself must name the rule that was meant. */
+/* Counts what a damaged recording's breach is, by the model, which must name what was meant. */
+static void cover(const struct buffer *in, int rule, int kind)
+{
+    struct judge j;
+    struct tally t = {0};
+    struct verdict v;
+    struct record first;
+    record_read(&first, in->bytes);
+    judge_fresh(&j, NO_LIMIT_GIVEN);
+    judge_recording(&j, &t, in->bytes, in->len, &v);
+    if (v.rule != rule || v.kind != kind) {
+        printf("the maker meant rule %d kind %d, the model names %d kind %d\n", rule, kind, v.rule,
+               v.kind);
+        failed++;
+    }
+    broken_first[v.rule]++;
+    kinds[v.kind]++;
+    wrapped += (v.span + first.stamp) >> 32 != 0;
+    far += v.span >> 32 != 0;
+}
+
+static void one_damaged(struct rng *g, unsigned long seed, int rule, int kind)
+{
+    struct maker m;
+    char what[64];
+    maker_start(&m, g, NO_LIMIT_GIVEN);
+    uint32_t broken = damage(&m, rule, kind);
+    cover(&m.out, rule, kind);
+    at_once += (broken & (broken - 1)) != 0;
+    snprintf(what, sizeof what, "recording with rule %d broken first, kind %d", rule, kind);
+    one_recording(g, &m.out, what, seed);
+    buffer_free(&m.out);
+}
+
+/* N damaged recordings for each rule, rule 8 in its three kinds. */
 static void damaged(struct rng *g, unsigned long seed)
 {
     for (int rule = 1; rule <= 13; rule++)
-        for (int i = 0; i < options.count; i++) {
-            struct maker m;
-            char what[64], text[TEXT];
-            int named = 0;
-            maker_start(&m, g, 16);
-            uint32_t broken = damage(&m, rule);
-            judge_program(NO_LIMIT_GIVEN, m.out.bytes, m.out.len, text);
-            const char *line = strstr(text, "breach rule ");
-            if (line != NULL)
-                named = atoi(line + 12);
-            if (named != rule) {
-                printf("the maker meant rule %d, the model names %d\n", rule, named);
-                failed++;
-            }
-            broken_first[rule]++;
-            at_once += (broken & (broken - 1)) != 0;
-            snprintf(what, sizeof what, "recording with rule %d broken first", rule);
-            one_recording(g, &m.out, what, seed);
-            buffer_free(&m.out);
-        }
+        for (int kind = rule == 8; kind < (rule == 8 ? KINDS : 1); kind++)
+            for (int i = 0; i < options.count; i++)
+                one_damaged(g, seed, rule, kind);
 }
 
 static void sound(struct rng *g, unsigned long seed)
@@ -184,32 +206,64 @@ static void pass(unsigned long seed)
         lists(&g, seed);
 }
 
+/* With a fair share each kind of rule 8 is to be met, and breaches after wraps and beyond 2^32. */
+static void met(const char *where, const unsigned long *of_kind, unsigned long others)
+{
+    if (options.count < ENOUGH || (of_kind[NO_OWNER] > 0 && of_kind[TOO_FEW] > 0 &&
+                                   of_kind[TOO_SOON] > 0 && others > 0))
+        return;
+    printf("FAILED: a kind of rule 8, or a breach at a great span, was never met in %s\n", where);
+    failed++;
+}
+
+static void say_kinds(const unsigned long *of_kind)
+{
+    printf(" (8a:%lu 8b:%lu 8c:%lu)", of_kind[NO_OWNER], of_kind[TOO_FEW], of_kind[TOO_SOON]);
+}
+
+static void recordings_met(void)
+{
+    printf("recordings %lu; rule broken first:", recordings);
+    for (int r = 1; r <= 13; r++) {
+        printf(" %d:%lu", r, broken_first[r]);
+        if (r == 8)
+            say_kinds(kinds);
+    }
+    printf("; more than one rule broken at once in %lu\n", at_once);
+    printf("breaches after a wrap of the stamp %lu, at a span of 2^32 or more %lu\n", wrapped, far);
+    met("recordings", kinds, wrapped < far ? wrapped : far);
+}
+
+static void calls_met(void)
+{
+    printf("calls %lu, of which not settled by the paper %lu\n", covered.calls + covered.skipped,
+           covered.skipped);
+    printf("answers by operation and refusal:\n");
+    for (int op = 1; op < 23; op++) {
+        printf("  %2d: %lu", op, covered.by_op[op]);
+        for (int no = 1; no < 9; no++)
+            if (covered.op_refusal[op][no] > 0)
+                printf("  refused %d: %lu", no, covered.op_refusal[op][no]);
+        printf("\n");
+    }
+    printf("judge calls by rule:");
+    for (int r = 0; r <= 13; r++) {
+        printf(" %d:%lu", r, covered.rules[r]);
+        if (r == 8)
+            say_kinds(covered.kinds);
+    }
+    printf("; at a span of 2^32 or more %lu\n", covered.far);
+    printf("notes: none %lu short %lu extra %lu stray %lu; no operation: %lu\n", covered.notes[0],
+           covered.notes[1], covered.notes[2], covered.notes[3], covered.refusals[255]);
+    met("calls", covered.kinds, covered.far);
+}
+
 static void summary(void)
 {
-    if (options.judge != NULL) {
-        printf("recordings %lu; rule broken first:", recordings);
-        for (int r = 1; r <= 13; r++)
-            printf(" %d:%lu", r, broken_first[r]);
-        printf("; more than one rule broken at once in %lu\n", at_once);
-    }
-    if (options.calls != NULL) {
-        printf("calls %lu, of which not settled by the paper %lu\n",
-               covered.calls + covered.skipped, covered.skipped);
-        printf("answers by operation and refusal:\n");
-        for (int op = 1; op < 23; op++) {
-            printf("  %2d: %lu", op, covered.by_op[op]);
-            for (int no = 1; no < 9; no++)
-                if (covered.op_refusal[op][no] > 0)
-                    printf("  refused %d: %lu", no, covered.op_refusal[op][no]);
-            printf("\n");
-        }
-        printf("judge calls by rule:");
-        for (int r = 0; r <= 13; r++)
-            printf(" %d:%lu", r, covered.rules[r]);
-        printf("\nnotes: none %lu short %lu extra %lu stray %lu; no operation: %lu\n",
-               covered.notes[0], covered.notes[1], covered.notes[2], covered.notes[3],
-               covered.refusals[255]);
-    }
+    if (options.judge != NULL)
+        recordings_met();
+    if (options.calls != NULL)
+        calls_met();
     printf("outside: %lu passed, %lu failed\n", passed, failed);
 }
 

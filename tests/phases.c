@@ -20,7 +20,7 @@ enum { FIXED_SEED = 19861023, MOST_REPORTS = 5, MOST_LINES = 30, LINE = 4096, EN
 
 struct options options = {.count = 50, .seconds = 60};
 static unsigned long passed, failed, seed;
-static unsigned long by_rule[14], complete, torn, absent, reached;
+static unsigned long by_rule[14], by_kind[KINDS], complete, torn, absent, reached;
 
 /* What the program is asked for. */
 struct asked {
@@ -65,8 +65,11 @@ static void cover(const char *text)
     complete += strstr(text, "\ncomplete\n") != NULL;
     torn += strstr(text, "\nrefused 1\n") != NULL;
     absent += strstr(text, "refused 10 ") != NULL;
-    if (breach != NULL)
+    if (breach != NULL) {
         by_rule[atoi(breach + 12)]++;
+        if (breach[12] == '8')
+            by_kind[breach[13] - 'a' + NO_OWNER]++;
+    }
     for (; (text = strstr(text, "mark ")) != NULL; text++)
         reached++;
 }
@@ -149,7 +152,7 @@ static void sound(struct rng *g)
     }
 }
 
-/* Some of the marks, and then a breach of each rule. */
+/* Some of the marks, and then a breach of each rule, of rule 8 in its kinds by turns. */
 static void damaged(struct rng *g)
 {
     for (int rule = 1; rule <= 13; rule++)
@@ -162,7 +165,7 @@ static void damaged(struct rng *g)
             marked_boot(&m, a.marks, part, part, 3);
             if (rng_chance(g, 30))
                 marked_open(&m, a.marks[rng_below(g, (uint32_t)a.count)]);
-            damage(&m, rule);
+            damage(&m, rule, rule == 8 ? 1 + i % (KINDS - 1) : 0);
             snprintf(what, sizeof what, "a boot with rule %d broken first", rule);
             one(g, &a, &m, what);
         }
@@ -174,7 +177,7 @@ static struct report places(const struct asked *a, const struct buffer *in)
     struct report p;
     report_fresh(&p, a->limit, a->marks, a->count);
     for (size_t at = 0; at < in->len && !report_complete(&p); at += RECORD)
-        if (report_one(&p, in->bytes + at) != 0)
+        if (report_one(&p, in->bytes + at).rule != 0)
             break;
     return p;
 }
@@ -327,6 +330,11 @@ static void summary(void)
     for (int rule = 1; rule <= 13; rule++) {
         printf(" %d:%lu", rule, by_rule[rule]);
         least = by_rule[rule] < least ? by_rule[rule] : least;
+    }
+    printf(", of rule");
+    for (int kind = NO_OWNER; kind < KINDS; kind++) {
+        printf(" 8%c:%lu", 'a' + kind - NO_OWNER, by_kind[kind]);
+        least = by_kind[kind] < least ? by_kind[kind] : least;
     }
     printf("\nnear:");
     for (int kind = 0; kind < NEARS; kind++) {

@@ -5,7 +5,8 @@
 #include "marked.h"
 #include "selfmarks.h"
 
-static unsigned long compared, apart, endings[4], reached;
+enum { ENOUGH = 50 }; /* a count at which everything is to be met */
+static unsigned long compared, apart, endings[4], reached, kinds[KINDS];
 
 static void check(unsigned limit, const struct mark *marks, size_t count, const struct buffer *in)
 {
@@ -19,6 +20,8 @@ static void check(unsigned limit, const struct mark *marks, size_t count, const 
                                                      : 3]++;
     for (const char *at = stepped; (at = strstr(at, "mark ")) != NULL; at++)
         reached++;
+    const char *early = strstr(stepped, "breach rule 8");
+    kinds[early != NULL && early[13] >= 'a' && early[13] <= 'c' ? early[13] - 'a' + NO_OWNER : 0]++;
     if (strcmp(stepped, back) == 0)
         return;
     apart++;
@@ -48,6 +51,8 @@ static void boot(struct rng *g)
         marked_open(&m, marks[count - 1]);
     if (rng_chance(g, 30))
         marked_break(&m);
+    else if (rng_chance(g, 25))
+        damage(&m, 8, 1 + (int)rng_below(g, KINDS - 1));
     check(limit, marks, count, &m.out);
     m.out.len -= rng_below(g, (uint32_t)(m.out.len < 200 ? m.out.len : 200));
     check(limit, marks, count, &m.out);
@@ -64,7 +69,7 @@ static void any_traffic(struct rng *g, int rule)
     size_t count = 0;
     maker_start(&m, g, 16);
     if (rule > 0)
-        damage(&m, rule);
+        damage(&m, rule, 0);
     else
         traffic_boot(&m, 600);
     for (size_t i = 0; i < m.out.len / RECORD && count < MOST_MARKS; i++) {
@@ -84,8 +89,14 @@ unsigned long selfmarks(int count, struct rng *g, unsigned long *differ)
         boot(g);
     for (int i = 0; i < count; i++)
         any_traffic(g, (int)rng_below(g, 14));
-    printf("boot reports: complete %lu, a breach %lu, torn %lu, a mark absent %lu; marks reached %lu\n",
-           endings[0], endings[1], endings[2], endings[3], reached);
+    printf("boot reports: complete %lu, a breach %lu (8a:%lu 8b:%lu 8c:%lu), torn %lu, a mark absent "
+           "%lu; marks reached %lu\n", endings[0], endings[1], kinds[NO_OWNER], kinds[TOO_FEW],
+           kinds[TOO_SOON], endings[2], endings[3], reached);
+    for (int k = NO_OWNER; count >= ENOUGH && k < KINDS; k++)
+        if (kinds[k] == 0) {
+            printf("no boot report ends with that kind of rule 8: %d\n", k);
+            apart++;
+        }
     for (int i = 0; i < 4; i++)
         if (endings[i] == 0) {
             printf("no boot report ends that way: %d\n", i);

@@ -1,6 +1,7 @@
 /* The model against itself: its judge against the rules said of the recording alone, on sound,
-   wild and damaged recordings; the stepper's traffic against the judge (the maker stops the
-   program where that breaks a rule); and its boot report against a second way.
+   wild and damaged recordings, none of which breaks 8b and 8c at once; the stepper's traffic against
+   the judge (the maker stops the program where that breaks a rule); and its boot report against a
+   second way.
 
    selftest [COUNT [SEED]] */
 #include <stdio.h>
@@ -9,7 +10,27 @@
 #include "make.h"
 #include "selfmarks.h"
 
-static unsigned long compared, differ, rules[14];
+enum { ENOUGH = 50 }; /* a count at which everything is to be met */
+static unsigned long compared, differ, rules[14], kinds[KINDS], far, too_long;
+
+static void say(const char *who, const struct verdict *v, const struct tally *t, int open)
+{
+    printf("%s: rule %d kind %d record %lu span %llu; records %lu span %llu starts %lu acks %lu "
+           "aborted %lu open %d\n", who, v->rule, v->kind, (unsigned long)v->record,
+           (unsigned long long)v->span, (unsigned long)t->records, (unsigned long long)t->span,
+           (unsigned long)t->starts, (unsigned long)t->acks, (unsigned long)t->aborted, open);
+}
+
+static int same_verdict(const struct verdict *a, const struct verdict *b)
+{
+    return a->rule == b->rule && a->kind == b->kind && a->record == b->record && a->span == b->span;
+}
+
+static int same_tally(const struct tally *a, const struct tally *b)
+{
+    return a->records == b->records && a->span == b->span && a->starts == b->starts &&
+           a->acks == b->acks && a->aborted == b->aborted;
+}
 
 static void check(const struct maker *m, unsigned limit)
 {
@@ -17,22 +38,54 @@ static void check(const struct maker *m, unsigned limit)
     struct judge j;
     struct tally t = {0};
     struct verdict v;
-    if (!lookback_judge(m->out.bytes, m->out.len, limit, &l))
+    if (!lookback_judge(m->out.bytes, m->out.len, limit, &l)) {
+        too_long++;
         return;
+    }
     judge_fresh(&j, limit);
     judge_recording(&j, &t, m->out.bytes, m->out.len, &v);
     compared++;
     rules[v.rule]++;
-    if (v.rule == l.rule && t.records == l.t.records && t.span == l.t.span &&
-        t.starts == l.t.starts && t.acks == l.t.acks && t.aborted == l.t.aborted &&
-        j.open == l.open && t.starts == t.acks + t.aborted + j.open)
+    kinds[v.kind]++;
+    far += v.span >> 32 != 0;
+    if (same_verdict(&v, &l.v) && same_tally(&t, &l.t) && j.open == l.open &&
+        t.starts == t.acks + t.aborted + j.open && never_both(&m->out, limit))
         return;
     differ++;
-    printf("judge: rule %d records %lu starts %lu acks %lu aborted %lu open %d; looking back: rule "
-           "%d records %lu starts %lu acks %lu aborted %lu open %d\n", v.rule,
-           (unsigned long)t.records, (unsigned long)t.starts, (unsigned long)t.acks,
-           (unsigned long)t.aborted, j.open, l.rule, (unsigned long)l.t.records,
-           (unsigned long)l.t.starts, (unsigned long)l.t.acks, (unsigned long)l.t.aborted, l.open);
+    say("judge", &v, &t, j.open);
+    say("looking back", &l.v, &l.t, l.open);
+}
+
+/* Sound, wild and damaged recordings under any limit; rule 8 has three kinds. */
+static void some_recording(struct maker *m, int which)
+{
+    if (which >= 1 && which <= 13)
+        damage(m, which, 0);
+    else if (which > 17)
+        damage(m, 8, which - 17);
+    else if (which % 2)
+        traffic_bus(m, 300);
+    else
+        traffic_wild(m, 100);
+}
+
+/* Says what was compared; each rule and kind is to be among it, and a breach at a great span. */
+static void summary(int count)
+{
+    unsigned long least = far;
+    printf("by rule:");
+    for (int r = 0; r <= 13; r++) {
+        printf(" %d:%lu", r, rules[r]);
+        least = rules[r] < least ? rules[r] : least;
+    }
+    printf("; 8a:%lu 8b:%lu 8c:%lu; breaches at a span of 2^32 or more: %lu; too long to look back: "
+           "%lu\n", kinds[NO_OWNER], kinds[TOO_FEW], kinds[TOO_SOON], far, too_long);
+    for (int k = 1; k < KINDS; k++)
+        least = kinds[k] < least ? kinds[k] : least;
+    if (count >= ENOUGH && least == 0) {
+        printf("something of these was never met\n");
+        differ++;
+    }
 }
 
 int main(int argc, char **argv)
@@ -40,23 +93,15 @@ int main(int argc, char **argv)
     int count = argc > 1 ? atoi(argv[1]) : 100;
     struct rng g = {argc > 2 ? strtoul(argv[2], NULL, 0) : 1};
     for (int i = 0; i < count; i++)
-        for (int rule = 0; rule <= 17; rule++) {
+        for (int which = 0; which < 17 + KINDS; which++) {
             struct maker m;
             unsigned limit = 1 + rng_below(&g, rng_chance(&g, 50) ? 3 : 16);
             maker_start(&m, &g, limit);
-            if (rule >= 1 && rule <= 13)
-                damage(&m, rule);
-            else if (rule % 2)
-                traffic_bus(&m, 300);
-            else
-                traffic_wild(&m, 100);
+            some_recording(&m, which);
             check(&m, limit);
             buffer_free(&m.out);
         }
-    printf("by rule:");
-    for (int r = 0; r <= 13; r++)
-        printf(" %d:%lu", r, rules[r]);
-    printf("\n");
+    summary(count);
     compared += selfmarks(count, &g, &differ);
     printf("selftest: %lu passed, %lu failed\n", compared - differ, differ);
     return differ > 0 || compared == 0;

@@ -1,5 +1,5 @@
-/* An independent model of document 01, used to test the programs from outside.
-   It is written from the document alone and shares nothing with the library. */
+/* An independent model of document 01 and of document 02's wishes so far, used to test the programs
+   from outside. It is written from the documents alone and shares nothing with the library. */
 #ifndef SPUR_H
 #define SPUR_H
 
@@ -86,16 +86,24 @@ struct tally {
     uint64_t span;
     uint32_t starts, acks, aborted;
 };
+/* What rule 8 says at once (document 02, wish 2): 8a parking with no owner since the reset, 8b RQST
+   active for too few cycles, 8c too soon after the wave's last START. */
+enum { NO_OWNER = 1, TOO_FEW, TOO_SOON, KINDS };
 struct verdict {
     int rule; /* 0 for none */
+    int kind; /* of rule 8, 0 for another */
     uint32_t record;
+    uint64_t span; /* at the breach's record */
 };
+#define NO_BREACH ((struct verdict){0})
 int judge_fresh(struct judge *j, unsigned limit);
 int judge_bounds(const struct judge *j, const struct tally *t);
 uint32_t judge_broken(const struct judge *j, const struct record *r, unsigned spare);
+/* The kinds of rule 8 that the record breaks, bit k for kind k. */
+uint32_t judge_early(const struct judge *j, const struct record *r);
 int judge_lowest(uint32_t broken); /* 0 for none */
 void judge_take(struct judge *j, struct tally *t, const struct record *r);
-int judge_one(struct judge *j, struct tally *t, const uint8_t *bytes);
+struct verdict judge_one(struct judge *j, struct tally *t, const uint8_t *bytes);
 int judge_recording(struct judge *j, struct tally *t, const uint8_t *bytes, size_t len,
                     struct verdict *v);
 /* What the judging program prints for a whole input; TEXT is enough room. The limit is 16 where the
@@ -103,7 +111,8 @@ int judge_recording(struct judge *j, struct tally *t, const uint8_t *bytes, size
 enum { TEXT = 256, NO_LIMIT_GIVEN = 16 };
 /* Gives the exit status. */
 int judge_program(unsigned limit, const uint8_t *bytes, size_t len, char *text);
-void judge_text(const struct tally *t, int open, int rule, int refusal, char *text);
+void judge_text(const struct tally *t, int open, struct verdict v, int refusal, char *text);
+void judge_breach_line(struct verdict v, char *text, size_t room);
 
 /* --- the driver program's calls --- */
 enum { CALL = 64 };

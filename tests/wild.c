@@ -174,28 +174,60 @@ static void grow_old(struct maker *m, unsigned age)
     }
 }
 
+/* A reset, or on from where the bus is; gives an ARB that the wave allows. */
+static uint8_t fresh_or_on(struct maker *m)
+{
+    if (!m->j.has_stamp || rng_chance(m->g, 40))
+        reset(m);
+    if (m->j.turn > 0)
+        return m->j.arb > 0 ? (uint8_t)rng_below(m->g, m->j.arb + 1u) : 0;
+    return (uint8_t)rng_below(m->g, 16);
+}
+
+/* Near each kind: no wave's START since a reset; in a wave's first cycle, half of them right behind
+   the last START of another, and some with a parked one in it; or right after one of its STARTs. */
+int wild_early(struct maker *m, int kind)
+{
+    struct rng *g = m->g;
+    uint8_t arb = fresh_or_on(m);
+    if (kind == NO_OWNER) {
+        reset(m);
+        return 1;
+    }
+    if (kind == TOO_SOON)
+        return wave_start(m, arb, some_unit(g), 1) && settle(m);
+    if (!settle(m) || ((m->j.rqst1 || rng_chance(g, 50)) && !wave_start(m, arb, -1, 0)))
+        return 0;
+    struct record r = quiet(m);
+    r.rqst = 1;
+    if (m->j.started && rng_chance(g, 30))
+        r.start = r.ack = r.tm1 = r.tm0 = 1;
+    return maker_try(m, &r, 0) == 0;
+}
+
+void wild_far(struct maker *m, uint32_t records)
+{
+    reset(m);
+    for (; records > 0; records--) {
+        struct record r = quiet(m);
+        r.stamp += ((uint32_t)1 << 31) - 1;
+        maker_try(m, &r, 0);
+    }
+}
+
 int wild_setup(struct maker *m, int rule)
 {
     struct rng *g = m->g;
-    uint8_t arb = (uint8_t)rng_below(g, 16);
+    uint8_t arb = fresh_or_on(m);
     uint32_t turns;
-    if (!m->j.has_stamp || rng_chance(g, 40))
-        reset(m);
-    if (m->j.turn > 0)
-        arb = m->j.arb > 0 ? (uint8_t)rng_below(g, m->j.arb + 1u) : 0;
     switch (rule) {
     case 4:
         return wave_start(m, arb, (int)rng_below(g, UNITS), rng_chance(g, 50));
     case 6:
     case 7:
         return settle(m) && wait_turn(m);
-    case 8: /* near a wave's beginning, or right after one of its STARTs */
-        if (rng_chance(g, 50)) {
-            struct record r = quiet(m);
-            r.rqst = 1;
-            return settle(m) && maker_try(m, &r, 0) == 0;
-        }
-        return wave_start(m, arb, -1, 1);
+    case 8:
+        return wild_early(m, 1 + (int)rng_below(g, KINDS - 1));
     case 9:
         return wave_start(m, arb, some_unit(g), 1);
     case 10:
