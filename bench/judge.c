@@ -51,7 +51,7 @@ static inline uint32_t words_of(uint32_t lines, uint32_t ad)
     return ad & 32 ? 0 : 16;
 }
 
-/* Judges records up to the end or a breach, whose rule it gives. */
+/* Judges records up to the end or a breach, whose rule it gives; the state is that before it. */
 static int judge(struct state *state, const uint8_t *p, const uint8_t *end)
 {
     struct state s = *state;
@@ -191,16 +191,34 @@ static int judge(struct state *state, const uint8_t *p, const uint8_t *end)
     return rule;
 }
 
-static int say(const struct state *s, int rule, int refusal)
+/* A breach: its rule, 0 for none, rule 8 with its kind's letter; and the span at its record. */
+struct breach {
+    int rule;
+    const char *kind;
+    uint64_t span;
+};
+
+/* What a breach tells, from its record and the state before it. */
+static struct breach told(const struct state *s, const uint8_t *p, int rule)
+{
+    uint32_t diff = s->diff0 ? 0 : (uint32_t)(big64(p) >> 32) - s->stamp;
+    struct breach b = {rule, "", s->span + (rule > 2 ? diff : 0)};
+    if (rule == 8)
+        b.kind = diff != 1 || !s->rqst1 ? "a" : !s->rqst2 ? "b" : "c";
+    return b;
+}
+
+static int say(const struct state *s, struct breach b, int refusal)
 {
     char text[256];
     int n = snprintf(text, sizeof text,
                      "records %" PRIu32 " span %" PRIu64 " starts %" PRIu32 " acks %" PRIu32
                      " aborted %" PRIu32 " open %" PRIu32 "\n",
                      s->records, s->span, s->starts, s->acks, s->aborted, s->open);
-    if (rule)
-        n += snprintf(text + n, sizeof text - (size_t)n, "breach rule %d record %" PRIu32 "\n", rule,
-                      s->records);
+    if (b.rule)
+        n += snprintf(text + n, sizeof text - (size_t)n,
+                      "breach rule %d%s record %" PRIu32 " span %" PRIu64 "\n", b.rule, b.kind,
+                      s->records, b.span);
     else if (refusal)
         n += snprintf(text + n, sizeof text - (size_t)n, "refused %d\n", refusal);
     else
@@ -213,13 +231,14 @@ static int say(const struct state *s, int rule, int refusal)
         }
         at += (int)w;
     }
-    return rule ? 1 : refusal ? 2 : 0;
+    return b.rule ? 1 : refusal ? 2 : 0;
 }
 
 int main(void)
 {
     static uint8_t bytes[65536];
     struct state s = {.diff0 = 1};
+    struct breach none = {0};
     size_t have = 0;
     for (;;) {
         ssize_t n = read(0, bytes + have, sizeof bytes - have);
@@ -228,14 +247,15 @@ int main(void)
             return 3;
         }
         if (n == 0)
-            return say(&s, 0, have ? 1 : 0);
+            return say(&s, none, have ? 1 : 0);
         have += (size_t)n;
         size_t whole = have / 16, room = MOST - s.records;
+        uint32_t before = s.records;
         int rule = judge(&s, bytes, bytes + 16 * (whole < room ? whole : room));
         if (rule)
-            return say(&s, rule, 0);
+            return say(&s, told(&s, bytes + 16 * (size_t)(s.records - before), rule), 0);
         if (whole > room)
-            return say(&s, 0, 8);
+            return say(&s, none, 8);
         have -= 16 * whole;
         memcpy(bytes, bytes + 16 * whole, have);
     }
