@@ -65,7 +65,13 @@ refused 10 place 0' /dev/null 3/4
     reported 'a breach with a mark absent' 1 'mark 0 span 2
 mark 1 span 9 diff 7
 records 8
-breach rule 2 record 8' "$work/two-breach" 3/4 5/6 3/4
+breach rule 2 record 8 span 10' "$work/two-breach" 3/4 5/6 3/4
+    # slot 3's mark, RQST in cycle 5 alone, and a START in 6
+    { quiet 00 && quiet 01 && write_34 02 && success 04 && quiet 05 && write_56 06; } >"$work/early"
+    reported 'an early START behind the last mark' 0 "$first" "$work/early" 3/4
+    reported 'an early START with a mark absent' 1 'mark 0 span 2
+records 5
+breach rule 8b record 5 span 6' "$work/early" 3/4 5/6
     reported 'a torn piece behind the last mark' 0 "$both" "$work/two-torn" 3/4 5/6
     reported 'a torn piece with a mark absent' 2 'mark 0 span 9
 records 8
@@ -85,18 +91,18 @@ records 2656
 complete" "$root/samples/phases.rec" 10/1 2/1 5/7 11/2 10/1 15/15
     reported 'the sample, a mark more' 1 "$six
 records 2783
-breach rule 8 record 2783" "$root/samples/phases.rec" 10/1 2/1 5/7 11/2 10/1 15/15 1/5
+breach rule 8c record 2783 span 14679" "$root/samples/phases.rec" 10/1 2/1 5/7 11/2 10/1 15/15 1/5
     reported 'the sample, two marks exchanged' 1 'mark 0 span 2482
 mark 1 span 4843 diff 2361
 mark 2 span 13244 diff 8401
 records 2783
-breach rule 8 record 2783' "$root/samples/phases.rec" 10/1 2/1 11/2 5/7
+breach rule 8c record 2783 span 14679' "$root/samples/phases.rec" 10/1 2/1 11/2 5/7
     reported 'the sample, limit 4' 1 'mark 0 span 2482
 mark 1 span 4843 diff 2361
 mark 2 span 11580 diff 6737
 mark 3 span 13244 diff 1664
 records 2241
-breach rule 11 record 2241' --limit 4 "$root/samples/phases.rec" 10/1 2/1 5/7 11/2 10/1 15/15
+breach rule 11 record 2241 span 13935' --limit 4 "$root/samples/phases.rec" 10/1 2/1 5/7 11/2 10/1 15/15
     judged 'the sample of the boot report, judged' 1 "$breaks" "$root/samples/phases.rec"
 }
 
@@ -122,7 +128,7 @@ complete' --limit 2 "$work/turn" 3/4 3/4
     for limit in 1 01; do
         reported "limit $limit" 1 'mark 0 span 2
 records 5
-breach rule 11 record 5' --limit "$limit" "$work/turn" 3/4 3/4
+breach rule 11 record 5 span 5' --limit "$limit" "$work/turn" 3/4 3/4
     done
     reported 'limit 1, and a mark before it shows' 0 "${first}" --limit=1 "$work/turn" 3/4
     for limit in 0 17 4294967312 99999999999999999999999; do

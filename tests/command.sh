@@ -1,7 +1,7 @@
 #!/bin/sh
 # The command ./spur: its lines, its exit statuses and what it says on standard error. The lines on the samples are those of
-# samples/README.md, by the model; those on the recordings that are made here are worked out by hand. What a machine can't do is
-# skipped with a word. The last line is 'command: N passed, M failed'.
+# samples/README.md, by the model, the spans at their breaches added up from the stamps; those on the recordings that are made here are
+# worked out by hand. What a machine can't do is skipped with a word. The last line is 'command: N passed, M failed'.
 set -u
 root=$(dirname -- "$(dirname -- "$(readlink -f -- "$0")")")
 spur=$root/spur
@@ -57,7 +57,7 @@ boot=$root/samples/boot.rec
 conforms='records 4096 span 16163 starts 755 acks 754 aborted 0 open 1
 conforming'
 breaks='records 2783 span 14678 starts 584 acks 584 aborted 0 open 0
-breach rule 8 record 2783'
+breach rule 8c record 2783 span 14679'
 nothing='records 0 span 0 starts 0 acks 0 aborted 0 open 0
 conforming'
 
@@ -69,6 +69,27 @@ verdicts() {
     judged 'a torn end' 2 'records 4095 span 16162 starts 755 acks 754 aborted 0 open 1
 refused 1' "$work/torn.rec"
     judged 'no record' 0 "$nothing" "$work/empty.rec"
+}
+
+# The three kinds of rule 8: a START in the first cycle; behind one cycle of RQST; two cycles behind the wave's last START, an attention
+# cycle. The first record's stamp is 5 in each, and the record's own less 5 is the span. Behind a breach of rule 2, the stamp being the
+# one before it, and of rule 1, a spare bit, it is that of the record before.
+early() {
+    record 05 02 00 00 00 00 >"$work/8a"
+    { quiet 05 && record 06 02 00 00 00 00; } >"$work/8b"
+    { quiet 05 && quiet 06 && record 07 43 C0 00 00 00 && quiet 08 && record 09 02 00 00 00 00; } >"$work/8c"
+    { record 05 00 00 00 00 00 && record 08 00 00 00 00 00 && record 08 02 00 00 00 00; } >"$work/rule2"
+    { record 05 00 00 00 00 00 && record 08 00 00 00 00 00 && bytes 00 00 00 09 02 00 00 00 00 00 00 00 00 00 00 01; } >"$work/rule1"
+    judged 'rule 8a' 1 'records 0 span 0 starts 0 acks 0 aborted 0 open 0
+breach rule 8a record 0 span 0' "$work/8a"
+    judged 'rule 8b' 1 'records 1 span 0 starts 0 acks 0 aborted 0 open 0
+breach rule 8b record 1 span 1' "$work/8b"
+    judged 'rule 8c' 1 'records 4 span 3 starts 1 acks 1 aborted 0 open 0
+breach rule 8c record 4 span 4' "$work/8c"
+    judged 'rule 2' 1 'records 2 span 3 starts 0 acks 0 aborted 0 open 0
+breach rule 2 record 2 span 3' "$work/rule2"
+    judged 'rule 1' 1 'records 2 span 3 starts 0 acks 0 aborted 0 open 0
+breach rule 1 record 2 span 3' "$work/rule1"
 }
 
 # A recording of one wave: RQST and ARB 10 in each cycle from 0 on, and an attention cycle in 2, 5, 8 and so on, so many of them,
@@ -162,7 +183,8 @@ unreadable() {
 totals() { # STARTS: what the records of so many STARTs, and the two cycles behind them, add up to
     printf 'records %s span %s starts %s acks %s aborted 0 open 0' $((3 * $1 + 2)) $((3 * $1 + 1)) "$1" "$1"
 }
-at_most() { printf '%s\nbreach rule 11 record %s' "$(totals "$1")" $((3 * $1 + 2)); }
+# Record n is in cycle n, so its span is n too.
+at_most() { printf '%s\nbreach rule 11 record %s span %s' "$(totals "$1")" $((3 * $1 + 2)) $((3 * $1 + 2)); }
 all_pass() { printf '%s\nconforming' "$(totals "$1")"; }
 
 limited_stdin() { "$spur" judge --limit 4 <"$work/17"; }
@@ -182,7 +204,7 @@ limits() {
     judged 'limit 00016, 17 STARTs' 1 "$(at_most 16)" --limit 00016 "$work/17"
     judged 'limit 04' 1 "$(at_most 4)" --limit 04 -- "$work/17"
     judged 'limit 4, by the model' 1 'records 2241 span 13934 starts 521 acks 521 aborted 0 open 0
-breach rule 11 record 2241' --limit 4 "$boot"
+breach rule 11 record 2241 span 13935' --limit 4 "$boot"
     expect 'a limit, and standard input' 1 "$(at_most 4)" '' limited_stdin
     for limit in 0 000 17 00017 100 4294967300 18446744073709551620 99999999999999999999999; do
         judged "limit $limit" 2 'refused 3' --limit "$limit" "$work/5"
@@ -260,6 +282,7 @@ outputs() {
 . "$root/tests/firstuse.sh"
 . "$root/tests/bootreport.sh"
 verdicts
+early
 inputs
 unreadable
 limits
