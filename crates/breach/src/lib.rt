@@ -1,11 +1,14 @@
 // Which rule a record breaks (document 01, "The judge": "For each record, lowest number first: .."), by what the judge's state says of the
 // cycles before. What the state is after a record that breaks none stands in the crate `judge`; the definitions of both, in `rules`.
+ghost use mathlib.Core.Bool.{cond};
 ghost use mathlib.Core.Path.{_≡_};
-ghost use Rattle.rules.specs.Rules.{rule1, rule2, rule3, rule4, rule5, rule6, rule7, rule8, rule9, rule10, rule11, rule12, rule13};
+ghost use Rattle.rules.specs.Rules.{rule1, rule2, rule3, rule4, rule5, rule6, rule7, rule8a, rule8b, rule8c, rule9, rule10, rule11, rule12, rule13};
 ghost use Rattle.rules.specs.State.{openWords, openStrobes, openAge, askedOf, twiceOf, diffOf};
+ghost use Rattle.rules.specs.Names.{only, noRule};
 ghost use Rattle.rules.specs.Run.{lowest, laterRules, ruleOf};
 use record::Record;
 use rules::Judge;
+use rules::Rule;
 use rules::Transfer;
 use rules::Wave;
 
@@ -112,11 +115,25 @@ fn code_known(start: bool, ack: bool, words: u8) -> bool
     !(start & !ack) | (0 < words)
 }
 
-// `since` cycles after the wave's last START.
-fn start_in_turn(start: bool, asked: bool, twice: bool, owned: bool, since: u64) -> bool
-    ensures { λ r. ⌜ r ≡ rule8 start asked twice owned since ⌝ }
+// Rule 8a.
+fn parked_by_owner(start: bool, asked: bool, owned: bool) -> bool
+    ensures { λ r. ⌜ r ≡ rule8a start asked owned ⌝ }
 {
-    (!(start & !asked) | owned) & (!(start & asked) | twice) & (!(start & asked) | (3 <= since))
+    !(start & !asked) | owned
+}
+
+// Rule 8b.
+fn asked_long(start: bool, asked: bool, twice: bool) -> bool
+    ensures { λ r. ⌜ r ≡ rule8b start asked twice ⌝ }
+{
+    !(start & asked) | twice
+}
+
+// Rule 8c: `since` cycles after the wave's last START.
+fn starts_apart(start: bool, asked: bool, since: u64) -> bool
+    ensures { λ r. ⌜ r ≡ rule8c start asked since ⌝ }
+{
+    !(start & asked) | (3 <= since)
 }
 
 fn request_kept(last: bool, d: u32, rqst: bool, start: bool) -> bool
@@ -153,8 +170,36 @@ fn strobes_right(busy: bool, words: u8, strobes: u8, lines: Record) -> bool
         & (!(busy & lines.ack & lines.tm1 & lines.tm0) | (with == words as u32))
 }
 
-// The lowest rule from 3 up that a record without RESET breaks, 0 where it breaks none.
-fn lowest_rule(judge: Judge, lines: Record, d: u32) -> u8
+// ---- the lowest of them
+
+// This rule where it does not hold, and otherwise what the later ones say.
+fn first(holds: bool, number: u8, rest: Rule) -> Rule
+    ensures { λ r. ⌜ r ≡ cond holds rest (only number) ⌝ }
+{
+    if holds {
+        return rest;
+    }
+    Rule {
+        number: number,
+        kind: 0,
+    }
+}
+
+// The same of a kind of rule 8.
+fn first_kind(holds: bool, kind: u8, rest: Rule) -> Rule
+    ensures { λ r. ⌜ r ≡ cond holds rest (record { number = 8; kind = kind }) ⌝ }
+{
+    if holds {
+        return rest;
+    }
+    Rule {
+        number: 8,
+        kind: kind,
+    }
+}
+
+// The lowest rule from 3 up that a record without RESET breaks.
+fn lowest_rule(judge: Judge, lines: Record, d: u32) -> Rule
     ensures { λ r. ⌜ r ≡ lowest (laterRules judge lines d) ⌝ }
 {
     let transfer = judge.transfer;
@@ -170,24 +215,41 @@ fn lowest_rule(judge: Judge, lines: Record, d: u32) -> u8
     let owed = codes::words_owed(lines.tm0, lines.ad);
     let odd = codes::parity(lines.ad);
     let within = turn_within(judge.limit, start, one, arb, wave.arb, wave.turn);
-    let r13 = basics::first(strobes_right(busy, open.words, open.strobes, lines), 13, 0);
-    let r12 = basics::first(young(busy, open.age, d), 12, r13);
-    let r11 = basics::first(within, 11, r12);
-    let r10 = basics::first(arb_falls(start, one, arb, wave.arb), 10, r11);
-    let r9 = basics::first(request_kept(wave.rqst, d, lines.rqst, start), 9, r10);
-    let r8 = basics::first(start_in_turn(start, one, two, wave.owned, since), 8, r9);
-    let r7 = basics::first(code_known(start, ack, owed), 7, r8);
-    let r6 = basics::first(attention_lines(start, ack, lines.tm1, lines.tm0), 6, r7);
-    let r5 = basics::first(ack_while_open(busy, start, ack), 5, r6);
-    let r4 = basics::first(start_while_idle(busy, start), 4, r5);
-    basics::first(parity_right(lines.spv, lines.sp, odd), 3, r4)
+    let none = Rule { number: 0, kind: 0 };
+    let r13 = first(
+        strobes_right(busy, open.words, open.strobes, lines),
+        13,
+        none,
+    );
+    let r12 = first(young(busy, open.age, d), 12, r13);
+    let r11 = first(within, 11, r12);
+    let r10 = first(arb_falls(start, one, arb, wave.arb), 10, r11);
+    let r9 = first(request_kept(wave.rqst, d, lines.rqst, start), 9, r10);
+    let r8c = first_kind(starts_apart(start, one, since), 3, r9);
+    let r8b = first_kind(asked_long(start, one, two), 2, r8c);
+    let r8a = first_kind(parked_by_owner(start, one, wave.owned), 1, r8b);
+    let r7 = first(code_known(start, ack, owed), 7, r8a);
+    let r6 = first(attention_lines(start, ack, lines.tm1, lines.tm0), 6, r7);
+    let r5 = first(ack_while_open(busy, start, ack), 5, r6);
+    let r4 = first(start_while_idle(busy, start), 4, r5);
+    first(parity_right(lines.spv, lines.sp, odd), 3, r4)
 }
 
-// The lowest rule that a record breaks. "If RESET is active, .. no further rule applies" than 1 and 2.
-pub fn rule_of(judge: Judge, lines: Record, spare: u16, d: u32) -> u8
+// "If RESET is active, .. no further rule applies."
+fn unless_reset(reset: bool, rule: Rule) -> Rule
+    ensures { λ r. ⌜ r ≡ cond reset noRule rule ⌝ }
+{
+    if reset {
+        return Rule { number: 0, kind: 0 };
+    }
+    rule
+}
+
+// The lowest rule that a record breaks, by number and kind, both 0 where it breaks none.
+pub fn rule_of(judge: Judge, lines: Record, spare: u16, d: u32) -> Rule
     ensures { λ r. ⌜ r ≡ ruleOf judge (record { lines = lines; spare = spare }) d ⌝ }
 {
-    let r3 = basics::pick(lines.reset, 0, lowest_rule(judge, lines, d));
-    let r2 = basics::first(stamp_later(judge.seen, d), 2, r3);
-    basics::first(spare_zero(spare), 1, r2)
+    let r3 = unless_reset(lines.reset, lowest_rule(judge, lines, d));
+    let r2 = first(stamp_later(judge.seen, d), 2, r3);
+    first(spare_zero(spare), 1, r2)
 }

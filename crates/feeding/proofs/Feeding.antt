@@ -171,7 +171,7 @@ unfolding feedOf goneOn takenIn
 full s piece e =
     choice (λ (x : Stream). (x .tally ≡ s .tally) × (x .judge ≡ s .judge)) (goes (s .stop)) (λ _. (ap (λ (p : Progress). p .tally) none, ap (λ (p : Progress). p .judge) none)) (λ _. (refl, refl))
   where
-    none : judgedOf (s .judge) (s .tally) (tornOf s ++ piece) ≡ record { rule = 0; judge = s .judge; tally = s .tally }
+    none : judgedOf (s .judge) (s .tally) (tornOf s ++ piece) ≡ from (s .judge) (s .tally)
     none = let z : takenIn (s .tally) (tornOf s ++ piece) ≡ 0 = omega arith in ap (λ (k : ℕ). runOf (from (s .judge) (s .tally)) (recordsIn k (tornOf s ++ piece))) z
 
 pub lawful-limits : (limit : ℕ) → lawfulLimit limit ≡ true → (1 ≤ limit) × (limit ≤ 16)

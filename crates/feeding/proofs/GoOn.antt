@@ -18,9 +18,8 @@ use Rattle.rules.specs.declared.Verdict.the-variants.{Conforming, Breach}
 use Rattle.rules.specs.Bounds.{SoundJudge, SoundTally}
 use Rattle.rules.specs.Run.{Taken, takenIn as recordAt, ruleOf, from, nextOf, runOf, recordsIn}
 use Rattle.rules.specs.State.{diffOf}
-use Rattle.rules.specs.Verdict.{mostRecords, verdictOf, outcomeIn, outcomeOf}
-use Rattle.rules.proofs.Laws.{step-good, step-bad, next-open, run-append, run-stopped, run-sound, records-append, refusal-none, outcome-judged}
-use Rattle.rules.proofs.Parts.{run-open}
+use Rattle.rules.specs.Verdict.{mostRecords, brokenBy, verdictOf, outcomeIn, outcomeOf}
+use Rattle.rules.proofs.Laws.{step-good, step-bad, next-open, run-append, run-stopped, run-open, run-sound, records-append, refusal-none, outcome-judged}
 use Rattle.rules.proofs.Told.{records-take}
 use Rattle.feeding.specs.declared.Stop.{Stop}
 use Rattle.feeding.specs.declared.Stop.the-variants.{Going, AtBreach, PastMost}
@@ -80,10 +79,10 @@ run-count p (suc n) bytes z e =
     stopped : (nextOf p r .rule ≡ 0 → ⊥) → ⊥
     stopped ne = ne (ap (λ (q : Progress). q .rule) (sym (run-stopped (nextOf p r) (recordsIn n (drop 16 bytes)) ne)) ∙ e)
 
-    unbroken : nextOf p r .rule ≡ 0 → ruleOf (p .judge) r d ≡ 0
+    unbroken : nextOf p r .rule ≡ 0 → ruleOf (p .judge) r d .number ≡ 0
     unbroken f =
-        by-test (eqb (ruleOf (p .judge) r d) 0) (eqb-true (ruleOf (p .judge) r d) 0)
-        (λ g. ap (λ (q : Progress). q .rule) (sym (next-open p r z ∙ step-bad (p .judge) (p .tally) r (eqb-false (ruleOf (p .judge) r d) 0 g))) ∙ f)
+        by-test (eqb (ruleOf (p .judge) r d .number) 0) (eqb-true (ruleOf (p .judge) r d .number) 0)
+        (λ g. ap (λ (q : Progress). q .rule) (sym (next-open p r z ∙ step-bad (p .judge) (p .tally) r (eqb-false (ruleOf (p .judge) r d .number) 0 g))) ∙ f)
 
     going : nextOf p r .rule ≡ 0 → runOf (nextOf p r) (recordsIn n (drop 16 bytes)) .tally .records ≡ nextOf p r .tally .records + n → runOf (nextOf p r) (recordsIn n (drop 16 bytes)) .tally .records ≡ p .tally .records + suc n
     going f rest =
@@ -117,7 +116,7 @@ behind-in true bytes at e = (omega arith, omega arith)
 behind-in false bytes at e = (omega arith, omega arith)
 
 -- ---- the state, by what ended the judging
-pub breach-verdict : (p : Progress) → (p .rule ≡ 0 → ⊥) → verdictOf p ≡ Breach (record { rule = p .rule; place = p .tally .records })
+pub breach-verdict : (p : Progress) → (p .rule ≡ 0 → ⊥) → verdictOf p ≡ Breach (brokenBy p)
 unfolding verdictOf
 breach-verdict p ne = cond-false _ _ (ne-eqb (p .rule) 0 ne)
 
@@ -127,7 +126,7 @@ conforming-verdict p e = cond-true _ _ (eq-eqb (p .rule) 0 e)
 
 -- a breach is kept whatever comes behind it
 pub after-breach : (past : Bool) (p : Progress) (rest : List ℕ) → (p .rule ≡ 0 → ⊥)
-    → stateAfter past p rest ≡ stateWith (AtBreach (record { rule = p .rule; place = p .tally .records })) (p .judge) (p .tally) []
+    → stateAfter past p rest ≡ stateWith (AtBreach (brokenBy p)) (p .judge) (p .tally) []
 unfolding keptOf
 after-breach past p rest ne = ap (λ (v : Verdict). stateWith (stopOf past v) (p .judge) (p .tally) (keptOf (stopOf past v) rest)) (breach-verdict p ne)
 
@@ -216,7 +215,7 @@ module _ (j : Judge) (t : Tally) (room : t .records ≤ mostRecords) (x y : List
       let sums : p .tally .records + wholeIn left ≡ t .records + wholeIn (x ++ y) = omega arith in
       let here : goneOn j t x ≡ stateWith Going (p .judge) (p .tally) rest = ap (λ (b : Bool). stateAfter b p rest) under ∙ after-going p rest e in
       let same : judgedOf (p .judge) (p .tally) left ≡ judgedOf j t (x ++ y) =
-      ap (λ (q : Progress). runOf q (recordsIn (takenIn (p .tally) left) left)) (sym (run-open p e))
+      ap (λ (q : Progress). runOf q (recordsIn (takenIn (p .tally) left) left)) (sym (run-open j t (recordsIn (takenIn t x) x) e))
       ∙ ap (λ (k : ℕ). runOf p (recordsIn k left)) (sym further)
       ∙ ap (λ (k : ℕ). runOf p (recordsIn (takenIn t (x ++ y) - takenIn t x) (drop (k * 16) x ++ y))) (sym taken)
       ∙ sym all-judged in

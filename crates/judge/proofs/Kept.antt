@@ -16,7 +16,7 @@ use Rattle.rules.specs.declared.Tally.{Tally}
 use Rattle.rules.specs.declared.Wave.{Wave}
 use Rattle.rules.specs.declared.Transfer.{Transfer}
 use Rattle.rules.specs.declared.Transfer.the-variants.{Idle, Open}
-use Rattle.rules.specs.Rules.{strobe, rule5, rule6, rule8, rule9, rule10, rule11, rule12, rule13, rule13a, rule13b}
+use Rattle.rules.specs.Rules.{strobe, rule5, rule6, rule9, rule10, rule11, rule12, rule13, rule13a, rule13b}
 use Rattle.rules.specs.State.{isOpen, openWords, openStrobes, openAge, agedOf, transferOf, askedOf, twiceOf, capped, waveOf, tallyOf}
 use Rattle.rules.specs.Run.{laterRules, from, stepOf}
 use Rattle.rules.proofs.Laws.{AllHold}
@@ -97,10 +97,11 @@ started-is w rqst start arb d k s h = subst (λ (b : Bool). waveOf w rqst b arb 
 rule6-of : (start ack tm1 tm0 : Bool) → (start && ack) ≡ false → rule6 start ack tm1 tm0 ≡ true
 rule6-of start ack tm1 tm0 e = implies-none (start && ack) (tm1 && tm0) e
 
-rule8-of : (start asked twice owned : Bool) (n : ℕ) → (start ≡ true → asked ≡ true → (twice ≡ true) × (3 ≤ n)) → (start ≡ true → asked ≡ false → owned ≡ true) → rule8 start asked twice owned n ≡ true
-rule8-of true true twice owned n f g = let h = f refl refl in both-and twice (leb 3 n) (h .0) (le-leb 3 n (h .1))
-rule8-of true false twice owned n f g = both-and (owned && true) true (both-and owned true (g refl refl) refl) refl
-rule8-of false asked twice owned n f g = refl
+-- each kind of rule 8 is asked of a START, in a wave or without one
+kind-of : (start asked held : Bool) → (start ≡ true → asked ≡ true → held ≡ true) → implies (start && asked) held ≡ true
+kind-of true true held f = f refl refl
+kind-of true false held f = refl
+kind-of false asked held f = refl
 
 rule9-of : (last rqst start : Bool) (d : ℕ) → (last ≡ true → (d ≡ 1) × ((rqst || start) ≡ true)) → rule9 last d rqst start ≡ true
 rule9-of true rqst start d f = let h = f refl in both-and (eqb d 1) (rqst || start) (eq-eqb d 1 (h .0)) (h .1)
@@ -154,34 +155,38 @@ request-rules j r d s h =
 other-hold : (j : Judge) (t : Tally) (r : Record) (d : ℕ) → Plain j t r d → r .start ≡ false → requestHolds (j .wave) (r .rqst) d ≡ true
     → rule5 (isOpen (j .transfer)) (r .start) (r .ack) ≡ true → rule12 (isOpen (j .transfer)) (openAge (j .transfer)) d ≡ true
     → rule13 (isOpen (j .transfer)) (openWords (j .transfer)) (openStrobes (j .transfer)) (r .start) (r .ack) (r .tm1) (r .tm0) ≡ true → AllHold (laterRules j r d)
-other-hold j t r d p s q r5 r12 r13 = (
-  p .parity,
-  (
-    ap (λ (b : Bool). not (b && isOpen (j .transfer))) s,
-    (
-      r5,
+other-hold j t r d p s q r5 r12 r13 =
+    let w = j .wave in (
+      p .parity,
       (
-        rule6-of (r .start) (r .ack) (r .tm1) (r .tm0) (ap (λ (b : Bool). b && r .ack) s),
+        ap (λ (b : Bool). not (b && isOpen (j .transfer))) s,
         (
-          implies-none (r .start && not (r .ack)) _ (ap (λ (b : Bool). b && not (r .ack)) s),
+          r5,
           (
-            rule8-of (r .start) (askedOf (j .wave) d) (twiceOf (j .wave) d) (j .wave .owned) (j .wave .since + d) (no-start (r .start) s) (no-start (r .start) s),
+            rule6-of (r .start) (r .ack) (r .tm1) (r .tm0) (ap (λ (b : Bool). b && r .ack) s),
             (
-              request-rules j r d s q,
+              implies-none (r .start && not (r .ack)) _ (ap (λ (b : Bool). b && not (r .ack)) s),
               (
-                rule10-of (r .start) (askedOf (j .wave) d) (r .arb) (j .wave .arb) (no-start (r .start) s),
+                kind-of (r .start) (not (askedOf w d)) (w .owned) (no-start (r .start) s),
                 (
-                  rule11-of (j .limit) (r .start) (askedOf (j .wave) d) (r .arb) (j .wave .arb) (j .wave .turn) (no-start (r .start) s),
-                  (r12, (r13, tt)),
+                  kind-of (r .start) (askedOf w d) (twiceOf w d) (no-start (r .start) s),
+                  (
+                    kind-of (r .start) (askedOf w d) (leb 3 (w .since + d)) (no-start (r .start) s),
+                    (
+                      request-rules j r d s q,
+                      (
+                        rule10-of (r .start) (askedOf w d) (r .arb) (w .arb) (no-start (r .start) s),
+                        (rule11-of (j .limit) (r .start) (askedOf w d) (r .arb) (w .arb) (w .turn) (no-start (r .start) s), (r12, (r13, tt))),
+                      ),
+                    ),
+                  ),
                 ),
               ),
             ),
           ),
         ),
       ),
-    ),
-  ),
-)
+    )
 
 ack-hold : (j : Judge) (t : Tally) (r : Record) (d : ℕ) → AckKept j t r d → AllHold (laterRules j r d)
 ack-hold j t r d k =
@@ -253,21 +258,28 @@ start-hold j t r words d k =
             (
               code-held (r .start && not (r .ack)) (ap (ltb 0) (sym (k .code)) ∙ z .some),
               (
-                rule8-of (r .start) (askedOf w d) (twiceOf w d) (w .owned) (w .since + d)
-                    (λ _ e. let i = turn (asked-was w d e) in
-                    let n = i .next in
-                    let s = i .since in
-                    (ap (λ (b : Bool). b || (eqb d 2 && w .rqst)) (both-and (eqb d 1) (w .prior) (eq-eqb d 1 n) (i .prior)), omega arith))
-                    (λ _ e. z .parked (rest e)),
+                kind-of (r .start) (not (askedOf w d)) (w .owned) (λ _ e. z .parked (rest (not-holds (askedOf w d) e))),
                 (
-                  rule9-of (w .rqst) (r .rqst) (r .start) d (λ e. (turn e .next, ap (λ (b : Bool). r .rqst || b) (k .starts) ∙ or-true (r .rqst))),
+                  kind-of (r .start) (askedOf w d) (twiceOf w d)
+                      (λ _ e. let i = turn (asked-was w d e) in
+                      ap (λ (b : Bool). b || (eqb d 2 && w .rqst)) (both-and (eqb d 1) (w .prior) (eq-eqb d 1 (i .next)) (i .prior))),
                   (
-                    rule10-of (r .start) (askedOf w d) (r .arb) (w .arb) (λ _ e. turn (asked-was w d e) .falls),
+                    kind-of (r .start) (askedOf w d) (leb 3 (w .since + d))
+                        (λ _ e. let i = turn (asked-was w d e) in
+                        let n = i .next in
+                        let s = i .since in
+                        le-leb 3 (w .since + d) (omega arith)),
                     (
-                      rule11-of (j .limit) (r .start) (askedOf w d) (r .arb) (w .arb) (w .turn) (λ _ e. turn (asked-was w d e) .within),
+                      rule9-of (w .rqst) (r .rqst) (r .start) d (λ e. (turn e .next, ap (λ (b : Bool). r .rqst || b) (k .starts) ∙ or-true (r .rqst))),
                       (
-                        implies-none (isOpen (j .transfer)) _ (z .idle),
-                        (both-and _ _ (implies-none _ _ (ap (λ (b : Bool). b && strobe (openWords (j .transfer)) (r .start) (r .ack) (r .tm0)) (z .idle))) (implies-none _ _ (ap (λ (b : Bool). b && r .ack && r .tm1 && r .tm0) (z .idle))), tt),
+                        rule10-of (r .start) (askedOf w d) (r .arb) (w .arb) (λ _ e. turn (asked-was w d e) .falls),
+                        (
+                          rule11-of (j .limit) (r .start) (askedOf w d) (r .arb) (w .arb) (w .turn) (λ _ e. turn (asked-was w d e) .within),
+                          (
+                            implies-none (isOpen (j .transfer)) _ (z .idle),
+                            (both-and _ _ (implies-none _ _ (ap (λ (b : Bool). b && strobe (openWords (j .transfer)) (r .start) (r .ack) (r .tm0)) (z .idle))) (implies-none _ _ (ap (λ (b : Bool). b && r .ack && r .tm1 && r .tm0) (z .idle))), tt),
+                          ),
+                        ),
                       ),
                     ),
                   ),

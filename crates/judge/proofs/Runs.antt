@@ -13,8 +13,7 @@ use Rattle.rules.specs.declared.Tally.{Tally}
 use Rattle.rules.specs.declared.Progress.{Progress}
 use Rattle.rules.specs.Bounds.{SoundJudge, SoundTally}
 use Rattle.rules.specs.Run.{Taken, takenIn, recordsIn, from, stepOf, runOf}
-use Rattle.rules.proofs.Laws.{SoundProgress, next-open, run-stopped, step-sound, arb-le}
-use Rattle.rules.proofs.Parts.{run-open}
+use Rattle.rules.proofs.Laws.{Tidy, step-tidy, SoundProgress, next-open, run-stopped, step-sound, arb-le}
 use Rattle.judge.specs.Quick.{Ready, Left}
 use Rattle.judge.specs.declared.quick.Reached.{Reached}
 use Rattle.judge.proofs.Steps.{taken-of, step-ready}
@@ -75,7 +74,7 @@ left-again s j t i k u p g lt z e =
       le = omega arith;
       ready = subst (λ (x : Progress). Ready (x .judge) (x .tally)) (sym e) q;
       room = omega arith;
-      same = ap (λ (x : Progress). runOf x (recordsIn (length s / 16 - (i + 1)) (drop ((i + 1) * 16) s))) (sym (run-open p z) ∙ e) ∙ run-more s k u (length s / 16) i lt ∙ g .same;
+      same = ap (λ (x : Progress). runOf x (recordsIn (length s / 16 - (i + 1)) (drop ((i + 1) * 16) s))) (sym (subst Tidy (sym e) (step-tidy k u (recordAt s i)) z) ∙ e) ∙ run-more s k u (length s / 16) i lt ∙ g .same;
     }
 
 -- ---- the loop over a recording
@@ -136,7 +135,7 @@ going-again s n j t k u i p r g lt e z l =
           ∙ l .same
           ∙ ap (λ (m : ℕ). runOf (from (p .judge) (p .tally)) (recordsIn m (drop (i * 16 + 16) s))) size
           ∙ ap (λ (m : ℕ). runOf (from (p .judge) (p .tally)) (recordsIn (n - (i + 1)) (drop m s))) here
-          ∙ ap (λ (x : Progress). runOf x (recordsIn (n - (i + 1)) (drop ((i + 1) * 16) s))) (sym (run-open p z) ∙ e)
+          ∙ ap (λ (x : Progress). runOf x (recordsIn (n - (i + 1)) (drop ((i + 1) * 16) s))) (sym (subst Tidy (sym e) (step-tidy k u (recordAt s i)) z) ∙ e)
           ∙ run-more s k u n i lt
           ∙ g .same;
     }

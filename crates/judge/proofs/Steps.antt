@@ -6,7 +6,7 @@ use mathlib.Core.Path.{_≡_, refl, sym, ap, subst, _∙_}
 use native.Mathlib.Omega.{arith}
 use lib.Dec.{leb, ltb, eqb}
 use borrow.Author.Tests.{eqb-true, eqb-false, ltb-true, leb-true, le-leb, le-ltb}
-use Rattle.basics.specs.Order.{unless, implies}
+use Rattle.basics.specs.Order.{implies}
 use Rattle.basics.proofs.Bools.{choice, cond-true, cond-false, by-test, and-both, both-and}
 use Rattle.record.specs.declared.Record.{Record}
 use lib.ListN.{length, take}
@@ -16,11 +16,13 @@ use Rattle.codes.specs.Parity.{parityOf}
 use Rattle.rules.specs.declared.Judge.{Judge}
 use Rattle.rules.specs.declared.Tally.{Tally}
 use Rattle.rules.specs.declared.Wave.{Wave}
+use Rattle.rules.specs.declared.Rule.{Rule}
 use Rattle.rules.specs.declared.Progress.{Progress}
+use Rattle.rules.specs.Names.{only}
 use Rattle.rules.specs.Rules.{rule3}
 use Rattle.rules.specs.State.{isOpen, askedOf, waveOf, diffOf, resetOf, movedOf, judgeOf, tallyOf}
 use Rattle.rules.specs.Bounds.{SoundJudge, SoundTally}
-use Rattle.rules.specs.Run.{Taken, takenIn, lowest, laterRules, ruleOf, from, stepOf}
+use Rattle.rules.specs.Run.{Taken, takenIn, lowest, laterRules, ruleOf, from, broken, stepOf}
 use Rattle.rules.proofs.Laws.{AllHold, step-good, step-bad, step-sound}
 use Rattle.judge.specs.Quick.{WaveKept, Ready, Plain, plainly}
 
@@ -36,15 +38,15 @@ taken-of s lines spare h e f =
     ap (λ (x : Record). record { lines = x; spare = spare }) (e ∙ cond-false _ _ few) ∙ ap (λ (n : ℕ). record { lines = recordIn (take 16 s); spare = n }) (f ∙ cond-false _ _ few)
 
 -- ---- a record judged rule by rule, as the code has it
-pub step-breach : (j : Judge) (t : Tally) (r : Taken) (d rule : ℕ) → d ≡ diffOf j (r .lines .stamp) → rule ≡ ruleOf j r d → (rule ≡ 0 → ⊥) → record { rule = rule; judge = j; tally = t } ≡ stepOf j t r
+pub step-breach : (j : Judge) (t : Tally) (r : Taken) (d : ℕ) (rule : Rule) → d ≡ diffOf j (r .lines .stamp) → rule ≡ ruleOf j r d → (rule .number ≡ 0 → ⊥) → broken rule d j t ≡ stepOf j t r
 step-breach j t r d rule ed er ne =
     let e = er ∙ ap (ruleOf j r) ed in
-    ap (λ (n : ℕ). record { rule = n; judge = j; tally = t }) e ∙ sym (step-bad j t r (λ z. ne (e ∙ z)))
+    ap (λ (x : Rule). broken x d j t) e ∙ ap (λ (n : ℕ). broken (ruleOf j r (diffOf j (r .lines .stamp))) n j t) ed ∙ sym (step-bad j t r (λ z. ne (ap (λ (x : Rule). x .number) e ∙ z)))
 
-pub step-moves : (j : Judge) (t : Tally) (r : Taken) (d rule : ℕ) (k : Judge) → d ≡ diffOf j (r .lines .stamp) → rule ≡ ruleOf j r d → rule ≡ 0 → k ≡ judgeOf j (r .lines) d
+pub step-moves : (j : Judge) (t : Tally) (r : Taken) (d rule : ℕ) (k : Judge) → d ≡ diffOf j (r .lines .stamp) → rule ≡ ruleOf j r d .number → rule ≡ 0 → k ≡ judgeOf j (r .lines) d
     → from k (tallyOf t (isOpen (j .transfer)) (r .lines .reset) (r .lines .start) (r .lines .ack) d) ≡ stepOf j t r
 step-moves j t r d rule k ed er ez ek =
-    ap (λ (x : Judge). from x (totals d)) ek ∙ ap (λ (n : ℕ). from (judgeOf j (r .lines) n) (totals n)) ed ∙ sym (step-good j t r (sym (ap (ruleOf j r) ed) ∙ sym er ∙ ez))
+    ap (λ (x : Judge). from x (totals d)) ek ∙ ap (λ (n : ℕ). from (judgeOf j (r .lines) n) (totals n)) ed ∙ sym (step-good j t r (sym (ap (λ (n : ℕ). ruleOf j r n .number) ed) ∙ sym er ∙ ez))
   where
     totals : ℕ → Tally
     totals n = tallyOf t (isOpen (j .transfer)) (r .lines .reset) (r .lines .start) (r .lines .ack) n
@@ -89,23 +91,23 @@ step-ready j t r hj ht la z =
 
     left : Left (stepOf j t r .judge)
     left =
-        by-test (eqb (ruleOf j r d) 0) (λ e. subst (λ (p : Progress). Left (p .judge)) (sym (step-good j t r (eqb-true _ 0 e))) (judge-left j (r .lines) d))
-        (λ e. absurd (eqb-false (ruleOf j r d) 0 e (sym (ap (λ (p : Progress). p .rule) (step-bad j t r (eqb-false (ruleOf j r d) 0 e))) ∙ z)))
+        by-test (eqb (ruleOf j r d .number) 0) (λ e. subst (λ (p : Progress). Left (p .judge)) (sym (step-good j t r (eqb-true _ 0 e))) (judge-left j (r .lines) d))
+        (λ e. absurd (eqb-false (ruleOf j r d .number) 0 e (sym (ap (λ (p : Progress). p .rule) (step-bad j t r (eqb-false (ruleOf j r d .number) 0 e))) ∙ z)))
 
 -- ---- a record that keeps every rule
-lowest-none : (rs : List (ℕ × Bool)) → AllHold rs → lowest rs ≡ 0
+lowest-none : (rs : List (Rule × Bool)) → AllHold rs → lowest rs .number ≡ 0
 lowest-none [] h = refl
-lowest-none (r ∷ rs) h = ap (λ (t : Bool). unless t (r .0) (lowest rs)) (h .0) ∙ lowest-none rs (h .1)
+lowest-none (r ∷ rs) h = ap (λ (t : Bool). cond t (lowest rs) (r .0) .number) (h .0) ∙ lowest-none rs (h .1)
 
 implies-held : (a b : Bool) → b ≡ true → implies a b ≡ true
 implies-held true b e = e
 implies-held false b e = refl
 
-none-broken : (j : Judge) (t : Tally) (r : Record) (d : ℕ) → Plain j t r d → AllHold (laterRules j r d) → ruleOf j (record { lines = r; spare = 0 }) d ≡ 0
+none-broken : (j : Judge) (t : Tally) (r : Record) (d : ℕ) → Plain j t r d → AllHold (laterRules j r d) → ruleOf j (record { lines = r; spare = 0 }) d .number ≡ 0
 unfolding ruleOf
 none-broken j t r d p a =
-    ap (λ (b : Bool). unless b 2 (cond (r .reset) 0 (lowest (laterRules j r d)))) (implies-held (j .seen) _ (both-and (leb 1 d) (leb d (2 ^ 31)) (le-leb 1 d (p .later)) (le-leb d (2 ^ 31) (p .within))))
-    ∙ cond-false 0 (lowest (laterRules j r d)) (p .alive)
+    ap (λ (b : Bool). cond b (lowest (cond (r .reset) [] (laterRules j r d))) (only 2) .number) (implies-held (j .seen) _ (both-and (leb 1 d) (leb d (2 ^ 31)) (le-leb 1 d (p .later)) (le-leb d (2 ^ 31) (p .within))))
+    ∙ ap (λ (rs : List (Rule × Bool)). lowest rs .number) (cond-false [] (laterRules j r d) (p .alive))
     ∙ lowest-none (laterRules j r d) a
 
 pub step-kept : (j : Judge) (t : Tally) (r : Record) (d : ℕ) → Plain j t r d → AllHold (laterRules j r d)

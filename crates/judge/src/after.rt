@@ -151,6 +151,8 @@ pub(crate) fn unbroken(judge: Judge, tally: Tally, lines: Record, d: u32, next: 
     let totals = counted(tally, rules::is_open(open), lines, d);
     Progress {
         rule: 0,
+        kind: 0,
+        span: 0,
         judge: next,
         tally: totals,
     }

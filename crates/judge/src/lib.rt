@@ -13,7 +13,7 @@ ghost use mathlib.Core.List.{List};
 ghost use Prim.Native.Nat.{ℕ, _+_, _/_, _^_, _≤_, _<_};
 ghost use lib.ListN.{length, take};
 ghost use Rattle.rules.specs.Bounds.{SoundJudge, SoundTally};
-ghost use Rattle.rules.specs.Run.{takenIn, stepOf, recordsIn, runOf, from as starting};
+ghost use Rattle.rules.specs.Run.{takenIn, spanOf, broken, stepOf, recordsIn, runOf, from as starting};
 ghost use Rattle.rules.specs.Verdict.{refusalOf, refusedBy, verdictOf, outcomeOf, judgedOf};
 ghost use Rattle.rules.specs.Exact.{After, Told};
 ghost use Rattle.judge.specs.Quick.{callOf};
@@ -23,10 +23,37 @@ use rules::Judge;
 use rules::Judged;
 use rules::Outcome;
 use rules::Progress;
+use rules::Rule;
 use rules::Tally;
 use rules::Verdict;
 
 // ---- one record
+
+// The span that a breach tells (document 02, wish 2). At record 0 the difference is 0.
+fn span_at(tally: Tally, number: u8, d: u32) -> u64
+    requires { ⌜ SoundTally tally × (tally .records < 2 ^ 30) ⌝ }
+    ensures { λ r. ⌜ r ≡ spanOf tally number d ⌝ }
+{
+    if number <= 2 {
+        return tally.span;
+    }
+    tally.span + d as u64
+}
+
+// A record that breaks this rule leaves state and tally as they were before it.
+fn broken_at(judge: Judge, tally: Tally, rule: Rule, d: u32) -> Progress
+    requires { ⌜ SoundTally tally × (tally .records < 2 ^ 30) ⌝ }
+    ensures { λ r. ⌜ r ≡ broken rule d judge tally ⌝ }
+{
+    let span = span_at(tally, rule.number, d);
+    Progress {
+        rule: rule.number,
+        kind: rule.kind,
+        span: span,
+        judge: judge,
+        tally: tally,
+    }
+}
 
 // Judges a record rule by rule.
 fn judge_lines(judge: Judge, tally: Tally, lines: Record, spare: u16) -> Progress
@@ -35,12 +62,8 @@ fn judge_lines(judge: Judge, tally: Tally, lines: Record, spare: u16) -> Progres
 {
     let d = breach::difference(judge, lines.stamp);
     let rule = breach::rule_of(judge, lines, spare, d);
-    if rule != 0 {
-        return Progress {
-            rule: rule,
-            judge: judge,
-            tally: tally,
-        };
+    if rule.number != 0 {
+        return broken_at(judge, tally, rule, d);
     }
     let next = after::next_judge(judge, lines, d);
     after::unbroken(judge, tally, lines, d, next)
@@ -83,6 +106,8 @@ fn judge_records(bytes: &[u8], judge: Judge, tally: Tally) -> Progress
     }
     Progress {
         rule: 0,
+        kind: 0,
+        span: 0,
         judge: state,
         tally: totals,
     }
@@ -116,7 +141,7 @@ fn refused_by(number: u8) -> Verdict
     Verdict::Torn
 }
 
-// "A breach names its rule and the tally's records".
+// "A breach names its rule and the tally's records", its kind and the span.
 fn verdict_of(end: Progress) -> Verdict
     ensures { λ r. ⌜ r ≡ verdictOf end ⌝ }
 {
@@ -126,7 +151,9 @@ fn verdict_of(end: Progress) -> Verdict
     }
     let broken = Broken {
         rule: end.rule,
+        kind: end.kind,
         place: totals.records,
+        span: end.span,
     };
     Verdict::Breach(broken)
 }

@@ -28,6 +28,8 @@ fn undecided(judge: Judge, tally: Tally) -> Progress
 {
     Progress {
         rule: 1,
+        kind: 0,
+        span: 0,
         judge: judge,
         tally: tally,
     }

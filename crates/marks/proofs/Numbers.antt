@@ -3,6 +3,7 @@ use mathlib.Core.Bool.{cond}
 use mathlib.Core.Path.{_≡_, refl}
 use lib.Dec.{eqb}
 use Rattle.basics.specs.Answers.{Answer}
+use Rattle.rules.proofs.Answers.{brokenFrom}
 use Rattle.marks.specs.declared.Why.{Why}
 use Rattle.marks.specs.declared.Why.the-variants.{Complete, AtBreach, Torn, TooMany, Absent, OutOfBounds}
 use Rattle.marks.specs.Report.{Reason, whyAnswer}
@@ -14,7 +15,7 @@ whyFrom a =
     (cond (eqb (a .number) 5) OutOfBounds
     (cond (eqb (a .number) 8) TooMany
     (cond (eqb (a .number) 10) (Absent (a .value .absent))
-    (cond (a .value .finding .breach) (AtBreach (record { rule = a .value .finding .rule; place = a .value .finding .place })) Complete))))
+    (cond (a .value .finding .breach) (AtBreach (brokenFrom (a .value .finding))) Complete))))
 
 pub why-back : (w : Why) → whyFrom (whyAnswer w) ≡ w
 why-back Complete = refl

@@ -9,9 +9,12 @@ use lib.Dec.{ltb}
 use borrow.Author.Tests.{ltb-true, ltb-false}
 use Rattle.basics.proofs.Bools.{by-test}
 use Rattle.rules.specs.Recording.{Lines, recordingIn, cycle}
+use Rattle.rules.specs.declared.Rule.{Rule}
+use Rattle.rules.specs.Names.{ruleIn}
 use Rattle.rules.specs.Thirteen.{rules}
+use Rattle.rules.specs.Exact.{spanAt}
 use Rattle.rules.proofs.Places.{below, same-place, clash}
-use Rattle.rules.proofs.Exactly.{kept-not, first-only}
+use Rattle.rules.proofs.Exactly.{kept-not, first-only, same-breach}
 use Rattle.feeding.specs.Input.{judgedIn}
 use Rattle.marks.specs.declared.Mark.{Mark}
 use Rattle.marks.specs.declared.Marks.{Marks}
@@ -102,7 +105,7 @@ module _ (limit : ℕ) (m : Marks) (bytes : List ℕ) where
       where
         stops : (why : Why) → Because limit m bytes (e .records) (e .found) why → ⊥
         stops Complete h = not-behind (e .records) (f .records) (f .found) (f .why) (h .1) lt (b .why)
-        stops (AtBreach x) h = kept-not (rules limit (recordingIn bytes) (e .records)) (x .rule) (b .kept (e .records) lt) (h .3)
+        stops (AtBreach x) h = kept-not (rules limit (recordingIn bytes) (e .records)) (ruleIn x) (b .kept (e .records) lt) (h .3)
         stops Torn h = let x = h .1 in let y = b .within in omega arith
         stops TooMany h = let x = h .1 in let y = b .within in omega arith
         stops (Absent p) h = let x = h .1 in let y = b .within in omega arith
@@ -139,10 +142,9 @@ module _ (limit : ℕ) (m : Marks) (bytes : List ℕ) where
   why-only n found Torn Complete a b = let p = a .0 .0 in let q = b .0 in absurd (omega arith)
   why-only n found TooMany Complete a b = let p = a .0 .0 in let q = b .0 in absurd (omega arith)
   why-only n found (Absent x) Complete a b = let p = a .0 .0 in let q = b .0 in absurd (omega arith)
-  why-only n found (AtBreach x) (AtBreach y) a b = same (x .rule) (y .rule) (x .place) (y .place) (first-only (rules limit (recordingIn bytes) n) (x .rule) (y .rule) (a .3) (b .3)) (a .2 ∙ sym (b .2))
-    where
-      same : (j k p q : ℕ) → j ≡ k → p ≡ q → AtBreach (record { rule = j; place = p }) ≡ AtBreach (record { rule = k; place = q })
-      same j k p q u v = rw (u, v)
+  why-only n found (AtBreach x) (AtBreach y) a b =
+      let name = first-only (rules limit (recordingIn bytes) n) (ruleIn x) (ruleIn y) (a .3) (b .3) in
+      ap AtBreach (same-breach x y name (a .2 ∙ sym (b .2)) (a .4 ∙ ap (λ (r : Rule). spanAt lines n (r .number)) name ∙ sym (b .4)))
   why-only n found (AtBreach x) Torn a b = let p = a .1 in let q = b .1 in absurd (omega arith)
   why-only n found (AtBreach x) TooMany a b = let p = a .1 in let q = b .1 in absurd (omega arith)
   why-only n found (AtBreach x) (Absent y) a b = let p = a .1 in let q = b .1 in absurd (omega arith)

@@ -10,6 +10,7 @@ use Rattle.basics.proofs.Bools.{cond-true, both-and}
 use Rattle.basics.specs.Numbers.{lawfulLimit}
 use Rattle.rules.specs.Recording.{Lines, recordingIn, cycle}
 use Rattle.rules.specs.Exact.{joined}
+use Rattle.rules.specs.Names.{ruleIn}
 use Rattle.rules.specs.Thirteen.{rules, Keeps}
 use Rattle.rules.proofs.Exactly.{kept-not}
 use Rattle.rules.proofs.Laws.{unless-zero}
@@ -100,7 +101,7 @@ module _ (limit : ℕ) (m : Marks) (lawful : beginRefusal limit m ≡ 0) where
         → (why : Why) → Because limit m bytes (report .records) (report .found) why → why ≡ Complete
     unfolding judgedIn
     completes last k i keeps e x lt Complete h = refl
-    completes last k i keeps e x lt (AtBreach b) h = absurd (kept-not (rules limit (recordingIn bytes) (report .records)) (b .rule) (keeps (report .records) (h .1)) (h .3))
+    completes last k i keeps e x lt (AtBreach b) h = absurd (kept-not (rules limit (recordingIn bytes) (report .records)) (ruleIn b) (keeps (report .records) (h .1)) (h .3))
     completes last k i keeps e x lt Torn h = absurd (none-lacks last k i (report .records) (report .found) e x lt (let z = h .1 in omega arith) (h .0 .0) (h .0 .1))
     completes last k i keeps e x lt TooMany h = absurd (none-lacks last k i (report .records) (report .found) e x lt (let z = h .1 in omega arith) (h .0 .0) (h .0 .1))
     completes last k i keeps e x lt (Absent p) h = absurd (none-lacks last k i (report .records) (report .found) e x lt (let z = h .1 in omega arith) (h .0 .0) (h .0 .1))

@@ -20,11 +20,10 @@ use Rattle.rules.specs.Recording.{Lines, recordingIn, sixteen, gap, cycle}
 use Rattle.rules.specs.Run.{takenIn as recordAt, from, nextOf, runOf, recordsIn}
 use Rattle.rules.specs.State.{isOpen, freshJudge, zeroTally}
 use Rattle.rules.specs.Thirteen.{rules, Keeps, Breaks}
-use Rattle.rules.specs.Totals.{sum}
-use Rattle.rules.specs.Verdict.{mostRecords}
-use Rattle.rules.proofs.Laws.{fresh-sound, run-sound}
-use Rattle.rules.proofs.Parts.{run-open}
-use Rattle.rules.proofs.Reach.{Before, Reached, reached}
+use Rattle.rules.specs.Verdict.{mostRecords, brokenBy}
+use Rattle.rules.specs.Exact.{spanAt}
+use Rattle.rules.proofs.Laws.{fresh-sound, run-sound, run-open}
+use Rattle.rules.proofs.Reach.{Before, cycle-sum, named, Reached, reached}
 use Rattle.rules.proofs.Exactly.{kept-not}
 use Rattle.rules.proofs.Places.{below}
 use Rattle.rules.proofs.Told.{zero-sound}
@@ -51,11 +50,6 @@ use Rattle.marks.proofs.Only.{mark-only, mark-earlier}
 use Rattle.marks.proofs.Onward.{Sound, Between, feed-clean, walked, next-over, walked-between, rest-is, one-piece}
 
 -- ---- cycles
--- the span up to record i is its cycle
-sum-cycle : (r : Lines) (i : ℕ) → sum (gap r) (suc i) ≡ cycle r i
-sum-cycle r zero = refl
-sum-cycle r (suc i) = ap (λ x. x + gap r (suc i)) (sum-cycle r i)
-
 cycle-later : (r : Lines) (k i : ℕ) → k ≤ i → cycle r k ≤ cycle r i
 cycle-later r k zero le = ap-le (let z : k ≡ 0 = omega arith in z)
   where
@@ -169,7 +163,7 @@ module _ (limit : ℕ) (low : 1 ≤ limit) (high : limit ≤ 16) (m : Marks) (la
       go : Reached limit (recordingIn bytes) i (judged i) → Before limit (recordingIn bytes) i (judged i .judge) (judged i .tally)
       go h = ends (h .ends)
         where
-          ends : ((judged i .rule ≡ 0) × (h .place ≡ i)) ⊎ ((judged i .rule ≡ 0 → ⊥) × (h .place < i) × Breaks limit (recordingIn bytes) (h .place) (judged i .rule)) → Before limit (recordingIn bytes) i (judged i .judge) (judged i .tally)
+          ends : ((judged i .rule ≡ 0) × (h .place ≡ i)) ⊎ ((judged i .rule ≡ 0 → ⊥) × (h .place < i) × Breaks limit (recordingIn bytes) (h .place) (named (judged i)) × (judged i .span ≡ spanAt lines (h .place) (judged i .rule))) → Before limit (recordingIn bytes) i (judged i .judge) (judged i .tally)
           ends (inl x) = subst (λ k. Before limit (recordingIn bytes) k (judged i .judge) (judged i .tally)) (x .1) (h .before)
           ends (inr x) = absurd (x .0 e)
 
@@ -219,7 +213,7 @@ module _ (limit : ℕ) (low : 1 ≤ limit) (high : limit ≤ 16) (m : Marks) (la
 
   -- where a rule is broken
   abbrev brokenAt : ℕ → Broken
-  brokenAt i = record { rule = judged i .rule; place = judged i .tally .records }
+  brokenAt i = brokenBy (judged i)
 
   -- i records are read, all keep the rules, and a mark is missing still
   record Looking (i : ℕ) (p : Phases) : Type 0 where
@@ -273,7 +267,7 @@ module _ (limit : ℕ) (low : 1 ≤ limit) (high : limit ≤ 16) (m : Marks) (la
         )
 
     next-judged : nextOf (from (judged i .judge) (judged i .tally)) (recordAt b) ≡ judged (suc i)
-    next-judged = ap (λ (x : Progress). nextOf x (recordAt b)) (sym (run-open (judged i) (h .unbroken))) ∙ sym (run-last i (from (freshJudge limit) zeroTally) bytes)
+    next-judged = ap (λ (x : Progress). nextOf x (recordAt b)) (sym (run-open (freshJudge limit) zeroTally (recordsIn i bytes) (h .unbroken))) ∙ sym (run-last i (from (freshJudge limit) zeroTally) bytes)
 
     module _ (room : i < mostRecords) where
       gone : goneOn (judged i .judge) (judged i .tally) b ≡ stateAfter false (judged (suc i)) []
@@ -284,23 +278,23 @@ module _ (limit : ℕ) (low : 1 ≤ limit) (high : limit ≤ 16) (m : Marks) (la
       unfolding underWay judgedIn
       breach ne = go (reached limit bytes (suc i) low high)
         where
-          over : judged (suc i) .tally .records ≡ i → Breaks limit (recordingIn bytes) i (judged (suc i) .rule) → Over (nextSeen p b)
-          over records breaks =
+          over : judged (suc i) .tally .records ≡ i → Breaks limit (recordingIn bytes) i (named (judged (suc i))) → judged (suc i) .span ≡ spanAt lines i (judged (suc i) .rule) → Over (nextSeen p b)
+          over records breaks span =
               subst Over (sym (seen-ended (stateWith (Stopped (brokenAt (suc i))) (judged (suc i) .judge) (judged (suc i) .tally) []) (gone ∙ after-breach false (judged (suc i)) [] ne) refl)) (
                 refl,
                 report-right (withStream p (stateWith (Stopped (brokenAt (suc i))) (judged (suc i) .judge) (judged (suc i) .tally) [])) i (AtBreach (brokenAt (suc i))) (h .marks) (judged-sound (suc i) (omega arith)) (omega arith) (h .search) (let z = h .lacking in omega arith)
-                    records (omega arith) (now .good) (cond-false _ _ missing) ((h .lacking, not-yet lines m i (p .search) (h .search)), omega arith, records, breaks),
+                    records (omega arith) (now .good) (cond-false _ _ missing) ((h .lacking, not-yet lines m i (p .search) (h .search)), omega arith, records, breaks, span),
               )
 
           go : Reached limit (recordingIn bytes) (suc i) (judged (suc i)) → Over (nextSeen p b)
           go x = ends (x .ends)
             where
-              ends : ((judged (suc i) .rule ≡ 0) × (x .place ≡ suc i)) ⊎ ((judged (suc i) .rule ≡ 0 → ⊥) × (x .place < suc i) × Breaks limit (recordingIn bytes) (x .place) (judged (suc i) .rule)) → Over (nextSeen p b)
+              ends : ((judged (suc i) .rule ≡ 0) × (x .place ≡ suc i)) ⊎ ((judged (suc i) .rule ≡ 0 → ⊥) × (x .place < suc i) × Breaks limit (recordingIn bytes) (x .place) (named (judged (suc i))) × (judged (suc i) .span ≡ spanAt lines (x .place) (judged (suc i) .rule))) → Over (nextSeen p b)
               ends (inl y) = absurd (ne (y .0))
               ends (inr y) =
                   below (x .place) i (y .1)
-                  (λ less. absurd (kept-not (rules limit (recordingIn bytes) (x .place)) (judged (suc i) .rule) (now .good (x .place) less) (y .2)))
-                  (λ e. over (x .before .totals .records ∙ e) (subst (λ k. Breaks limit (recordingIn bytes) k (judged (suc i) .rule)) e (y .2)))
+                  (λ less. absurd (kept-not (rules limit (recordingIn bytes) (x .place)) (named (judged (suc i))) (now .good (x .place) less) (y .2)))
+                  (λ e. over (x .before .totals .records ∙ e) (subst (λ k. Breaks limit (recordingIn bytes) k (named (judged (suc i)))) e (y .2)) (subst (λ k. judged (suc i) .span ≡ spanAt lines k (judged (suc i) .rule)) e (y .3)))
 
       -- a record that keeps the rules is seen by the search
       module _ (e : judged (suc i) .rule ≡ 0) where
@@ -310,7 +304,7 @@ module _ (limit : ℕ) (low : 1 ≤ limit) (high : limit ≤ 16) (m : Marks) (la
         next-is : nextSeen p b ≡ after
         unfolding sawOf
         next-is =
-            let span : judged (suc i) .tally .span ≡ cycle lines i = before (suc i) e .totals .span ∙ sum-cycle lines i in
+            let span : judged (suc i) .tally .span ≡ cycle lines i = before (suc i) e .totals .span ∙ sym (cycle-sum lines i) in
             seen (waitingAt (suc i)) (gone ∙ after-going (judged (suc i)) [] e)
             ∙ ap (λ (x : ℕ). record { stream = waitingAt (suc i); marks = p .marks; search = seenOf (markAt (p .marks) (p .search .found)) (p .search) (lines i) x }) span
             ∙ ap (λ (x : Marks). record { stream = waitingAt (suc i); marks = p .marks; search = seenOf (markAt x (p .search .found)) (p .search) (lines i) (cycle lines i) }) (h .marks)

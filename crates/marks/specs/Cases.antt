@@ -106,7 +106,7 @@ cases =
     ∷ row (to 3 5 ∷ to 4 1 ∷ []) (asks 0xFFFFFFFC ∷ asks 0xFFFFFFFD ∷ writes 0xFFFFFFFE third ∷ acks 0xFFFFFFFF ∷ writes 3 fourth ∷ acks 4 ∷ []) (2 ∷ 7 ∷ []) 6 Complete
     -- a second ACK breaks rule 5: behind the last mark's it isn't looked at; with a mark missing it is told
     ∷ found (writes 2 third ∷ acks 3 ∷ acks 4 ∷ []) 4
-    ∷ row (to 3 5 ∷ to 4 1 ∷ []) (asked ++ (writes 2 third ∷ acks 3 ∷ acks 4 ∷ [])) (2 ∷ []) 4 (AtBreach (record { rule = 5; place = 4 }))
+    ∷ row (to 3 5 ∷ to 4 1 ∷ []) (asked ++ (writes 2 third ∷ acks 3 ∷ acks 4 ∷ [])) (2 ∷ []) 4 (AtBreach (record { rule = 5; kind = 0; place = 4; span = 4 }))
     -- a torn end likewise
     ∷ record { marks = to 3 5 ∷ []; bytes = bytesOf (asked ++ (writes 2 third ∷ acks 3 ∷ [])) ++ (0 ∷ []); spans = 2 ∷ []; records = 4; why = Complete }
     ∷ record { marks = to 3 5 ∷ []; bytes = bytesOf (asked ++ (writes 2 fourth ∷ acks 3 ∷ [])) ++ (0 ∷ []); spans = []; records = 4; why = Torn }

@@ -9,7 +9,9 @@ use lib.ListN.{length, getD, set, replicate}
 use Rattle.basics.specs.Answers.{Answer, accepted, refused}
 use Rattle.rules.specs.Recording.{Lines, recordingIn, cycle}
 use Rattle.rules.specs.Thirteen.{Keeps, Breaks}
-use Rattle.rules.specs.Verdict.{mostRecords, Finding, nothing}
+use Rattle.rules.specs.Verdict.{mostRecords, Finding, nothing, findingOf}
+use Rattle.rules.specs.Names.{ruleIn}
+use Rattle.rules.specs.Exact.{spanAt}
 use Rattle.feeding.specs.Input.{wholeIn, judgedIn}
 use Rattle.marks.specs.declared.Marks.{Marks}
 use Rattle.marks.specs.declared.Report.{Report}
@@ -55,9 +57,9 @@ Lacks m bytes n found = (found < m .count) × NotYet (recordingIn bytes .lines) 
 abbrev pub Because : ℕ → Marks → List ℕ → ℕ → ℕ → Why → Type 0
 -- "It stops at the ACK of the last mark"
 Because limit m bytes n found Complete = (found ≡ m .count) × LastAck (recordingIn bytes .lines) m n
--- else a mark is missing still, and record n breaks a rule, this being the lowest;
+-- else a mark is missing still, and record n breaks a rule, this being the lowest, with the span that a breach tells;
 Because limit m bytes n found (AtBreach b) =
-    Lacks m bytes n found × (n < judgedIn bytes) × (b .place ≡ n) × Breaks limit (recordingIn bytes) n (b .rule)
+    Lacks m bytes n found × (n < judgedIn bytes) × (b .place ≡ n) × Breaks limit (recordingIn bytes) n (ruleIn b) × (b .span ≡ spanAt (recordingIn bytes .lines) n (b .rule))
 -- or all whole records are read, and a torn one is left;
 Because limit m bytes n found Torn = Lacks m bytes n found × (n ≡ wholeIn bytes) × (length bytes % 16 ≡ 0 → ⊥)
 -- or 2^30 records are read, and there is a whole one more;
@@ -88,7 +90,7 @@ noReason = record { finding = nothing; absent = 0 }
 
 abbrev pub whyAnswer : Why → Answer Reason
 whyAnswer Complete = accepted noReason
-whyAnswer (AtBreach b) = accepted (record { finding = record { breach = true; rule = b .rule; place = b .place }; absent = 0 })
+whyAnswer (AtBreach b) = accepted (record { finding = findingOf b; absent = 0 })
 whyAnswer Torn = refused 1 noReason
 whyAnswer TooMany = refused 8 noReason
 whyAnswer (Absent p) = refused 10 (record { finding = nothing; absent = p })

@@ -39,15 +39,15 @@ absent-most : (place : ℕ) → length (absentLine place) ≤ 61
 unfolding absentLine
 absent-most place = simp length-append (omega (arith, most 10, most place))
 
-why-most : (w : Why) → length (whyLine w) ≤ 61
+why-most : (w : Why) → length (whyLine w) ≤ 88
 why-most Complete = omega arith
 why-most (AtBreach b) = breach-most b
-why-most Torn = refusal-most _
-why-most TooMany = refusal-most _
-why-most (Absent place) = search (absent-most, arith)
-why-most OutOfBounds = refusal-most _
+why-most Torn = omega (arith, refusal-most 1)
+why-most TooMany = omega (arith, refusal-most 8)
+why-most (Absent place) = omega (arith, absent-most place)
+why-most OutOfBounds = omega (arith, refusal-most 5)
 
 -- 32 marks, the records and why
-pub report-most : (r : Report) → length (reportLines r) ≤ 2586
+pub report-most : (r : Report) → length (reportLines r) ≤ 2613
 report-most r =
     simp length-append (omega (arith, marks-most r (min (r .found) 32), records-most (r .records), why-most (r .why)))

@@ -4,7 +4,8 @@
 use Prim.Native.Nat.{ℕ}
 use Prim.Native.String.{String}
 use mathlib.Core.Bool.{Bool, cond}
-use mathlib.Core.List.{List, _++_}
+use mathlib.Core.List.{List, [], _++_}
+use lib.Dec.{eqb}
 use Rattle.basics.specs.Lines.{one}
 use Rattle.basics.specs.Numbers.{lawfulLimit}
 use Rattle.rules.specs.declared.Broken.{Broken}
@@ -35,9 +36,13 @@ totalsLine t opened =
 unfoldable pub refusedLine : ℕ → List ℕ
 refusedLine number = named "refused " number ++ word "\n"
 
--- "`breach rule J record I` (I from 0 ..)"
+-- document 02, wish 2: "8a, ..; 8b, ..; 8c, ..": the letter of a kind, and none where a rule is of one kind
+unfoldable pub kindLetter : ℕ → List ℕ
+kindLetter kind = cond (eqb kind 1) (word "a") (cond (eqb kind 2) (word "b") (cond (eqb kind 3) (word "c") []))
+
+-- "`breach rule J record I` (I from 0 ..)", and by document 02, wish 2, "The program's breach line gains `span S` at its end"
 unfoldable pub breachLine : Broken → List ℕ
-breachLine b = named "breach rule " (b .rule) ++ named " record " (b .place) ++ word "\n"
+breachLine b = named "breach rule " (b .rule) ++ kindLetter (b .kind) ++ named " record " (b .place) ++ named " span " (b .span) ++ word "\n"
 
 -- the second line; its refusals are 5, 8 and 1, as `rules::Verdict` has them
 abbrev pub verdictLine : Verdict → List ℕ

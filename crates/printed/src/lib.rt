@@ -4,7 +4,7 @@ ghost use mathlib.Core.Path.{_≡_};
 ghost use lib.ListN.{length};
 ghost use Rattle.text.specs.Places.{front, movedBy, putAt};
 ghost use Rattle.printed.specs.Adding.{Adds};
-ghost use Rattle.printed.specs.Lines.{totalsLine, refusedLine, breachLine, verdictLine, linesOf};
+ghost use Rattle.printed.specs.Lines.{totalsLine, refusedLine, kindLetter, breachLine, verdictLine, linesOf};
 use feeding::Ending;
 use rules::Broken;
 use rules::Tally;
@@ -12,7 +12,7 @@ use rules::Verdict;
 use text::Place;
 
 // Enough for one line of those that come second, and for both lines, however many digits the numbers have.
-const LINE: usize = 64;
+const LINE: usize = 96;
 
 const PAGE: usize = 256;
 
@@ -29,6 +29,22 @@ fn put_totals(page: &mut [u8], place: Place, totals: Tally, opened: bool) -> Pla
     text::put_word(page, open, b"\n")
 }
 
+// The letter of a kind of rule 8, nothing where a rule is of one kind.
+fn put_kind(page: &mut [u8], place: Place, kind: u8) -> Place
+    ensures { λ r. ⌜ Adds (now (page .entry)) place (now (page .exit)) r (kindLetter kind) ⌝ }
+{
+    if kind == 1 {
+        return text::put_word(page, place, b"a");
+    }
+    if kind == 2 {
+        return text::put_word(page, place, b"b");
+    }
+    if kind == 3 {
+        return text::put_word(page, place, b"c");
+    }
+    place
+}
+
 // Puts a breach's line at the place, or nothing where it does not fit.
 pub fn put_breach(buffer: &mut [u8], place: Place, broken: Broken) -> Place
     ensures { λ r. ⌜ (r ≡ movedBy (length (now (buffer .entry))) place (length (breachLine broken))) × (now (buffer .exit) ≡ putAt (now (buffer .entry)) place (breachLine broken)) ⌝ }
@@ -36,8 +52,10 @@ pub fn put_breach(buffer: &mut [u8], place: Place, broken: Broken) -> Place
     let start = Place::front();
     let mut page = [0u8; LINE];
     let rule = text::put_named(&mut page, start, b"breach rule ", broken.rule as u64);
-    let record = text::put_named(&mut page, rule, b" record ", broken.place as u64);
-    let line = text::put_word(&mut page, record, b"\n");
+    let kind = put_kind(&mut page, rule, broken.kind);
+    let record = text::put_named(&mut page, kind, b" record ", broken.place as u64);
+    let span = text::put_named(&mut page, record, b" span ", broken.span);
+    let line = text::put_word(&mut page, span, b"\n");
     let breach = line.at;
     text::put_word(buffer, place, &page[..breach])
 }

@@ -12,6 +12,7 @@ use Rattle.basics.proofs.Bools.{choice, by-test}
 use Rattle.rules.specs.declared.Judge.{Judge}
 use Rattle.rules.specs.declared.Tally.{Tally}
 use Rattle.rules.specs.declared.Progress.{Progress}
+use Rattle.rules.specs.declared.Broken.{Broken}
 use Rattle.rules.specs.declared.Outcome.{Outcome}
 use Rattle.rules.specs.declared.Verdict.{Verdict}
 use Rattle.rules.specs.declared.Verdict.the-variants.{Conforming, Breach, OutOfBounds, TooMany, Torn}
@@ -31,11 +32,14 @@ pub fresh-back : (f : Fresh) → freshFrom (freshAnswer f) ≡ f
 fresh-back (Ready j) = refl
 fresh-back BadLimit = refl
 
--- a verdict, from its number and values
+-- a breach and a verdict, from its number and values
+abbrev pub brokenFrom : Finding → Broken
+brokenFrom f = record { rule = f .rule; kind = f .kind; place = f .place; span = f .span }
+
 abbrev verdictFrom : Answer Finding → Verdict
 verdictFrom a =
     cond (eqb (a .number) 0)
-    (cond (a .value .breach) (Breach (record { rule = a .value .rule; place = a .value .place })) Conforming)
+    (cond (a .value .breach) (Breach (brokenFrom (a .value))) Conforming)
     (refusedBy (a .number))
 
 pub verdict-back : (v : Verdict) → verdictFrom (verdictAnswer v) ≡ v

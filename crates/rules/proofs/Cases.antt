@@ -20,7 +20,9 @@ each-rule =
           (case refl refl (case refl refl (case refl refl (case refl refl (case refl refl (case refl refl
           (case refl refl (case refl refl (case refl refl (case refl refl (case refl refl (case refl refl
           (case refl refl (case refl refl (case refl refl (case refl refl (case refl refl (case refl refl
-          (case refl refl (case refl refl none)))))))))))))))))))))))));
+          (case refl refl (case refl refl (case refl refl (case refl refl (case refl refl (case refl refl
+          (case refl refl (case refl refl (case refl refl none))))))))))))))))))))))))))))))));
       all = refl;
       p6 = refl;
+      first = refl;
     }

@@ -8,6 +8,7 @@ use mathlib.Core.Logic.{_↔_, _⊎_, inl, inr}
 use native.Mathlib.Omega.{arith}
 use borrow.Author.Tests.{eq-eqb, ne-eqb}
 use Rattle.basics.proofs.Bools.{cond-true, cond-false}
+use Rattle.rules.specs.declared.Rule.{Rule}
 use Rattle.rules.specs.declared.Judge.{Judge}
 use Rattle.rules.specs.declared.Tally.{Tally}
 use Rattle.rules.specs.declared.Progress.{Progress}
@@ -15,47 +16,52 @@ use Rattle.rules.specs.declared.Broken.{Broken}
 use Rattle.rules.specs.declared.Verdict.{Verdict}
 use Rattle.rules.specs.declared.Verdict.the-variants.{Conforming, Breach, OutOfBounds, TooMany, Torn}
 use Rattle.rules.specs.declared.Outcome.{Outcome}
+use Rattle.rules.specs.Names.{ruleIn}
 use Rattle.rules.specs.State.{isOpen}
-use Rattle.rules.specs.Verdict.{verdictOf, outcomeIn}
+use Rattle.rules.specs.Verdict.{verdictOf, brokenBy, outcomeIn}
 use Rattle.rules.specs.Recording.{Lines, Recording, recordingIn, Asked, Began}
 use Rattle.rules.specs.Thirteen.{Rule2, rules, AllKept, FirstOf, Keeps, Breaks}
 use Rattle.rules.specs.Totals.{Number, none, more, other, Aborts, Totals}
-use Rattle.rules.specs.Exact.{FirstBreach, Rightly, counted, OpenAt, Exact}
+use Rattle.rules.specs.Exact.{spanAt, FirstBreach, Rightly, counted, OpenAt, Exact}
 use Rattle.rules.proofs.Places.{same-place}
 use Rattle.rules.proofs.Hold.{open-exact}
 use Rattle.rules.proofs.Ride.{asked-began}
 use Rattle.rules.proofs.Step.{JudgeIs, forward-to}
-use Rattle.rules.proofs.Reach.{Reached, reached}
+use Rattle.rules.proofs.Reach.{named, Reached, reached}
 
 -- ---- the verdict is one
-pub kept-not : (ps : List (ℕ × Type 0)) (n : ℕ) → AllKept ps → FirstOf n ps → ⊥
+pub kept-not : (ps : List (Rule × Type 0)) (n : Rule) → AllKept ps → FirstOf n ps → ⊥
 kept-not [] n k f = f
 kept-not (p ∷ ps) n k (inl f) = f .0 (k .0)
 kept-not (p ∷ ps) n k (inr f) = kept-not ps n (k .1) (f .1)
 
-pub first-only : (ps : List (ℕ × Type 0)) (m n : ℕ) → FirstOf m ps → FirstOf n ps → m ≡ n
+pub first-only : (ps : List (Rule × Type 0)) (m n : Rule) → FirstOf m ps → FirstOf n ps → m ≡ n
 first-only [] m n f g = absurd f
 first-only (p ∷ ps) m n (inl f) (inl g) = f .1 ∙ sym (g .1)
 first-only (p ∷ ps) m n (inl f) (inr g) = absurd (f .0 (g .0))
 first-only (p ∷ ps) m n (inr f) (inl g) = absurd (g .0 (f .0))
 first-only (p ∷ ps) m n (inr f) (inr g) = first-only ps m n (f .1) (g .1)
 
-breach-only : (limit : ℕ) (r : Recording) (n : ℕ) (a b : Broken) → FirstBreach limit r n (a .place) (a .rule) → FirstBreach limit r n (b .place) (b .rule) → Breach a ≡ Breach b
+pub same-breach : (a b : Broken) → ruleIn a ≡ ruleIn b → a .place ≡ b .place → a .span ≡ b .span → a ≡ b
+same-breach a b e f g = parts (a .rule) (b .rule) (a .kind) (b .kind) (a .place) (b .place) (a .span) (b .span) (ap (λ (x : Rule). x .number) e) (ap (λ (x : Rule). x .kind) e) f g
+  where
+    parts : (a b c d e f g h : ℕ) → a ≡ b → c ≡ d → e ≡ f → g ≡ h → _≡_ {A = Broken} (record { rule = a; kind = c; place = e; span = g }) (record { rule = b; kind = d; place = f; span = h })
+    parts a b c d e f g h p q s t = rw (p, q, s, t)
+
+breach-only : (limit : ℕ) (r : Recording) (n : ℕ) (a b : Broken) → FirstBreach limit r n a → FirstBreach limit r n b → Breach a ≡ Breach b
 breach-only limit r n a b u v =
     let place : a .place ≡ b .place = same-place (a .place) (b .place)
-    (λ lt. kept-not (rules limit r (a .place)) (a .rule) (v .before (a .place) lt) (u .lowest))
-    (λ lt. kept-not (rules limit r (b .place)) (b .rule) (u .before (b .place) lt) (v .lowest)) in
-    let rule : a .rule ≡ b .rule = first-only (rules limit r (b .place)) (a .rule) (b .rule) (subst (λ i. Breaks limit r i (a .rule)) place (u .lowest)) (v .lowest) in
-    same (a .rule) (b .rule) (a .place) (b .place) rule place
-  where
-    same : (m n i k : ℕ) → m ≡ n → i ≡ k → Breach (record { rule = m; place = i }) ≡ Breach (record { rule = n; place = k })
-    same m n i k e f = rw (e, f)
+    (λ lt. kept-not (rules limit r (a .place)) (ruleIn a) (v .before (a .place) lt) (u .lowest))
+    (λ lt. kept-not (rules limit r (b .place)) (ruleIn b) (u .before (b .place) lt) (v .lowest)) in
+    let name : ruleIn a ≡ ruleIn b = first-only (rules limit r (b .place)) (ruleIn a) (ruleIn b) (subst (λ i. Breaks limit r i (ruleIn a)) place (u .lowest)) (v .lowest) in
+    let rule = ap (λ (x : Rule). x .number) name in
+    ap Breach (same-breach a b name place (u .span ∙ ap (λ i. spanAt (r .lines) i (a .rule)) place ∙ ap (spanAt (r .lines) (b .place)) rule ∙ sym (v .span)))
 
 -- of two verdicts that a recording has, both are the same
 pub rightly-only : (limit : ℕ) (r : Recording) (n : ℕ) (v w : Verdict) → Rightly limit r n v → Rightly limit r n w → v ≡ w
 rightly-only limit r n Conforming Conforming a b = refl
-rightly-only limit r n Conforming (Breach y) a b = absurd (kept-not (rules limit r (y .place)) (y .rule) (a (y .place) (b .within)) (b .lowest))
-rightly-only limit r n (Breach x) Conforming a b = absurd (kept-not (rules limit r (x .place)) (x .rule) (b (x .place) (a .within)) (a .lowest))
+rightly-only limit r n Conforming (Breach y) a b = absurd (kept-not (rules limit r (y .place)) (ruleIn y) (a (y .place) (b .within)) (b .lowest))
+rightly-only limit r n (Breach x) Conforming a b = absurd (kept-not (rules limit r (x .place)) (ruleIn x) (b (x .place) (a .within)) (a .lowest))
 rightly-only limit r n (Breach x) (Breach y) a b = breach-only limit r n x y a b
 rightly-only limit r n OutOfBounds w a b = absurd a
 rightly-only limit r n TooMany w a b = absurd a
@@ -76,7 +82,7 @@ exactly-conforming limit r n o h = (
 )
 
 -- "breach" of rule j at record i exactly if i is the first record that breaks a rule, and j the lowest that it breaks
-pub exactly-breach : (limit : ℕ) (r : Recording) (n : ℕ) (o : Outcome) (b : Broken) → Exact limit r n o → (o .verdict ≡ Breach b) ↔ FirstBreach limit r n (b .place) (b .rule)
+pub exactly-breach : (limit : ℕ) (r : Recording) (n : ℕ) (o : Outcome) (b : Broken) → Exact limit r n o → (o .verdict ≡ Breach b) ↔ FirstBreach limit r n b
 exactly-breach limit r n o b h = (
   λ e. subst (Rightly limit r n) e (h .verdict),
   λ k. rightly-only limit r n (o .verdict) (Breach b) (h .verdict) k,
@@ -116,14 +122,14 @@ reached-exact limit r n p h = by-end (h .ends)
           balance = h .before .balance;
         }
 
-    by-end : ((p .rule ≡ 0) × (h .place ≡ n)) ⊎ ((p .rule ≡ 0 → ⊥) × (h .place < n) × Breaks limit r (h .place) (p .rule)) → Exact limit r n (outcomeIn p)
+    by-end : ((p .rule ≡ 0) × (h .place ≡ n)) ⊎ ((p .rule ≡ 0 → ⊥) × (h .place < n) × Breaks limit r (h .place) (named p) × (p .span ≡ spanAt (r .lines) (h .place) (p .rule))) → Exact limit r n (outcomeIn p)
     by-end (inl e) =
         subst (λ (v : Verdict). Exact limit r n (record { verdict = v; judge = p .judge; tally = p .tally })) (sym (cond-true _ _ (eq-eqb (p .rule) 0 (e .0))))
         (exact Conforming (λ i lt. h .before .good i (let z = e .1 in omega arith)) (sym (e .1)))
     by-end (inr e) =
         subst (λ (v : Verdict). Exact limit r n (record { verdict = v; judge = p .judge; tally = p .tally })) (sym (cond-false _ _ (ne-eqb (p .rule) 0 (e .0))))
-        (exact (Breach (record { rule = p .rule; place = p .tally .records }))
-        (subst (λ i. FirstBreach limit r n i (p .rule)) (sym (h .before .totals .records)) (record { within = e .1; before = h .before .good; lowest = e .2 }))
+        (exact (Breach (brokenBy p))
+        (subst (λ i. FirstBreach limit r n (record { rule = p .rule; kind = p .kind; place = i; span = p .span })) (sym (h .before .totals .records)) (record { within = e .1; before = h .before .good; lowest = e .2; span = e .3 }))
         (h .before .totals .records))
 
 -- ---- no START of a wave is passed over
@@ -141,6 +147,6 @@ wave-there limit bytes i low high keeps r2 = go (reached limit bytes i low high)
     go : {p : Progress} → Reached limit r i p → Asked (r .lines) i 1 → (b : ℕ) × Began (r .lines) i b
     go {p} h = by-end (h .ends)
       where
-        by-end : ((p .rule ≡ 0) × (h .place ≡ i)) ⊎ ((p .rule ≡ 0 → ⊥) × (h .place < i) × Breaks limit r (h .place) (p .rule)) → Asked (r .lines) i 1 → (b : ℕ) × Began (r .lines) i b
+        by-end : ((p .rule ≡ 0) × (h .place ≡ i)) ⊎ ((p .rule ≡ 0 → ⊥) × (h .place < i) × Breaks limit r (h .place) (named p) × (p .span ≡ spanAt (r .lines) (h .place) (p .rule))) → Asked (r .lines) i 1 → (b : ℕ) × Began (r .lines) i b
         by-end (inl e) = at (p .judge) (subst (λ k. JudgeIs limit (r .lines) k (p .judge)) (e .1) (h .before .judge))
-        by-end (inr e) = absurd (kept-not (rules limit r (h .place)) (p .rule) (keeps (h .place) (e .1)) (e .2))
+        by-end (inr e) = absurd (kept-not (rules limit r (h .place)) (named p) (keeps (h .place) (e .1)) (e .2))

@@ -9,7 +9,7 @@ use native.Mathlib.Nat.{zero-add, suc-add}
 use lib.ListN.{take, drop, length, length-drop, length-append}
 use lib.Seq.{take-append-le, drop-append-le}
 use lib.Dec.{leb, ltb, eqb}
-use borrow.Author.Tests.{eq-eqb, ne-eqb, leb-true, ltb-true, eqb-true, le-leb, lt-ltb}
+use borrow.Author.Tests.{eq-eqb, ne-eqb, leb-true, ltb-true, eqb-true, eqb-false, le-leb, lt-ltb}
 use Rattle.basics.specs.Lines.{one}
 use Rattle.basics.specs.Order.{unless}
 use Rattle.basics.proofs.Bools.{choice, cond-true, cond-false, and-both, both-and, implied}
@@ -18,6 +18,7 @@ use Rattle.record.specs.Layout.{recordIn, fieldsIn}
 use Rattle.rules.specs.declared.Judge.{Judge}
 use Rattle.rules.specs.declared.Wave.{Wave}
 use Rattle.rules.specs.declared.Tally.{Tally}
+use Rattle.rules.specs.declared.Rule.{Rule}
 use Rattle.rules.specs.declared.Progress.{Progress}
 use Rattle.rules.specs.declared.Transfer.{Transfer}
 use Rattle.rules.specs.declared.Transfer.the-variants.{Idle, Open}
@@ -25,10 +26,11 @@ use Rattle.basics.specs.Numbers.{watchdog, lawfulLimit}
 use Rattle.basics.specs.Order.{implies}
 use Rattle.codes.specs.Owed.{wordsOf}
 use Rattle.codes.proofs.OwedLaws.{owed-most}
-use Rattle.rules.specs.Rules.{difference, strobe, rule1, rule2, rule7, rule11, rule12, rule13, rule13a, rule13b}
+use Rattle.rules.specs.Names.{only}
+use Rattle.rules.specs.Rules.{difference, strobe, rule1, rule2, rule7, rule9, rule10, rule11, rule12, rule13, rule13a, rule13b}
 use Rattle.rules.specs.State.{isOpen, openWords, openStrobes, openAge, agedOf, transferOf, askedOf, waveOf, freshJudge, diffOf, resetOf, movedOf, judgeOf, tallyOf}
 use Rattle.rules.specs.Bounds.{transferBounds, judgeBounds, tallyBounds, SoundTransfer, SoundJudge, SoundTally}
-use Rattle.rules.specs.Run.{Taken, takenIn, recordsIn, lowest, laterRules, ruleOf, from, stepOf, nextOf, runOf}
+use Rattle.rules.specs.Run.{Taken, takenIn, recordsIn, lowest, laterRules, ruleOf, from, broken, stepOf, nextOf, runOf}
 use Rattle.rules.specs.Verdict.{mostRecords, refusalOf, refusedBy, outcomeIn, outcomeOf}
 
 -- ---- tests
@@ -47,33 +49,63 @@ count-le c n false h = omega arith
 
 -- ---- the rules that a record keeps
 -- every rule of the list holds
-abbrev pub AllHold : List (ℕ × Bool) → Type 0
+abbrev pub AllHold : List (Rule × Bool) → Type 0
 AllHold [] = Unit {0}
 AllHold (r ∷ rs) = (r .1 ≡ true) × AllHold rs
 
-abbrev numbered : List (ℕ × Bool) → Bool
+abbrev numbered : List (Rule × Bool) → Bool
 numbered [] = true
-numbered (r ∷ rs) = ltb 0 (r .0) && numbered rs
+numbered (r ∷ rs) = ltb 0 (r .0 .number) && numbered rs
 
-lowest-all : (rs : List (ℕ × Bool)) → numbered rs ≡ true → lowest rs ≡ 0 → AllHold rs
+lowest-zero : (r : Rule × Bool) (rs : List (Rule × Bool)) → ltb 0 (r .0 .number) ≡ true → lowest (r ∷ rs) .number ≡ 0 → (r .1 ≡ true) × (lowest rs .number ≡ 0)
+lowest-zero (name, true) rs p e = (refl, e)
+lowest-zero (name, false) rs p e = absurd (let h = ltb-true 0 (name .number) p in omega arith)
+
+lowest-all : (rs : List (Rule × Bool)) → numbered rs ≡ true → lowest rs .number ≡ 0 → AllHold rs
 lowest-all [] n e = tt
 lowest-all (r ∷ rs) n e =
-    let p = and-both (ltb 0 (r .0)) (numbered rs) n in
-    let q = unless-zero (r .1) (r .0) (lowest rs) (p .0) e in
+    let p = and-both (ltb 0 (r .0 .number)) (numbered rs) n in
+    let q = lowest-zero r rs (p .0) e in
     (q .0, lowest-all rs (p .1) (q .1))
 
+-- behind rule 1
+first-held : (j : Judge) (r : Taken) (d : ℕ) → ruleOf j r d .number ≡ 0 → lowest ((only 2, rule2 (j .seen) d) ∷ cond (r .lines .reset) [] (laterRules j (r .lines) d)) .number ≡ 0
+unfolding ruleOf
+first-held j r d e = lowest-zero (only 1, rule1 (r .spare)) ((only 2, rule2 (j .seen) d) ∷ cond (r .lines .reset) [] (laterRules j (r .lines) d)) refl e .1
+
 -- a record that breaks no rule and has no RESET keeps each rule from 3 up
-pub later-holds : (j : Judge) (r : Taken) (d : ℕ) → ruleOf j r d ≡ 0 → r .lines .reset ≡ false → AllHold (laterRules j (r .lines) d)
+pub later-holds : (j : Judge) (r : Taken) (d : ℕ) → ruleOf j r d .number ≡ 0 → r .lines .reset ≡ false → AllHold (laterRules j (r .lines) d)
 unfolding ruleOf
 later-holds j r d e n =
-    let a = unless-zero (rule1 (r .spare)) 1 _ refl e .1 in
-    let b = unless-zero (rule2 (j .seen) d) 2 _ refl a .1 in
-    lowest-all (laterRules j (r .lines) d) refl (sym (cond-false 0 (lowest (laterRules j (r .lines) d)) n) ∙ b)
+    let rest = cond (r .lines .reset) [] (laterRules j (r .lines) d) in
+    let b = lowest-zero (only 2, rule2 (j .seen) d) rest refl (first-held j r d e) .1 in
+    lowest-all (laterRules j (r .lines) d) refl (ap (λ (rs : List (Rule × Bool)). lowest rs .number) (sym (cond-false [] (laterRules j (r .lines) d) n)) ∙ b)
+
+-- some of them, by name
+module _ (j : Judge) (r : Record) (d : ℕ) (a : AllHold (laterRules j r d)) where
+  pub seventh : rule7 (r .start) (r .ack) (wordsOf (r .tm0) (r .ad)) ≡ true
+  seventh = a .1 .1 .1 .1 .0
+
+  -- the three kinds of rule 8 stand before
+  pub ninth : rule9 (j .wave .rqst) d (r .rqst) (r .start) ≡ true
+  ninth = a .1 .1 .1 .1 .1 .1 .1 .1 .0
+
+  pub tenth : rule10 (r .start) (askedOf (j .wave) d) (r .arb) (j .wave .arb) ≡ true
+  tenth = a .1 .1 .1 .1 .1 .1 .1 .1 .1 .0
+
+  pub eleventh : rule11 (j .limit) (r .start) (askedOf (j .wave) d) (r .arb) (j .wave .arb) (j .wave .turn) ≡ true
+  eleventh = a .1 .1 .1 .1 .1 .1 .1 .1 .1 .1 .0
+
+  pub twelfth : rule12 (isOpen (j .transfer)) (openAge (j .transfer)) d ≡ true
+  twelfth = a .1 .1 .1 .1 .1 .1 .1 .1 .1 .1 .1 .0
+
+  pub thirteenth : rule13 (isOpen (j .transfer)) (openWords (j .transfer)) (openStrobes (j .transfer)) (r .start) (r .ack) (r .tm1) (r .tm0) ≡ true
+  thirteenth = a .1 .1 .1 .1 .1 .1 .1 .1 .1 .1 .1 .1 .0
 
 -- rule 2, of any record that breaks none
-pub stamp-holds : (j : Judge) (r : Taken) (d : ℕ) → ruleOf j r d ≡ 0 → rule2 (j .seen) d ≡ true
+pub stamp-holds : (j : Judge) (r : Taken) (d : ℕ) → ruleOf j r d .number ≡ 0 → rule2 (j .seen) d ≡ true
 unfolding ruleOf
-stamp-holds j r d e = unless-zero (rule2 (j .seen) d) 2 _ refl (unless-zero (rule1 (r .spare)) 1 _ refl e .1) .0
+stamp-holds j r d e = lowest-zero (only 2, rule2 (j .seen) d) (cond (r .lines .reset) [] (laterRules j (r .lines) d)) refl (first-held j r d e) .0
 
 -- ---- steps and runs
 -- the state and the tally after a record that breaks no rule
@@ -82,11 +114,11 @@ after j t r =
     let d = diffOf j (r .lines .stamp) in
     from (judgeOf j (r .lines) d) (tallyOf t (isOpen (j .transfer)) (r .lines .reset) (r .lines .start) (r .lines .ack) d)
 
-pub step-good : (j : Judge) (t : Tally) (r : Taken) → ruleOf j r (diffOf j (r .lines .stamp)) ≡ 0 → stepOf j t r ≡ after j t r
+pub step-good : (j : Judge) (t : Tally) (r : Taken) → ruleOf j r (diffOf j (r .lines .stamp)) .number ≡ 0 → stepOf j t r ≡ after j t r
 unfolding stepOf
 step-good j t r e = cond-true _ _ (eq-eqb _ 0 e)
 
-pub step-bad : (j : Judge) (t : Tally) (r : Taken) → (ruleOf j r (diffOf j (r .lines .stamp)) ≡ 0 → ⊥) → stepOf j t r ≡ record { rule = ruleOf j r (diffOf j (r .lines .stamp)); judge = j; tally = t }
+pub step-bad : (j : Judge) (t : Tally) (r : Taken) → (ruleOf j r (diffOf j (r .lines .stamp)) .number ≡ 0 → ⊥) → stepOf j t r ≡ broken (ruleOf j r (diffOf j (r .lines .stamp))) (diffOf j (r .lines .stamp)) j t
 unfolding stepOf
 step-bad j t r ne = cond-false _ _ (ne-eqb _ 0 ne)
 
@@ -102,6 +134,28 @@ next-stopped p r ne = cond-false _ _ (ne-eqb (p .rule) 0 ne)
 pub run-stopped : (p : Progress) (rs : List Taken) → (p .rule ≡ 0 → ⊥) → runOf p rs ≡ p
 run-stopped p [] ne = refl
 run-stopped p (r ∷ rs) ne = ap (λ (x : Progress). runOf x rs) (next-stopped p r ne) ∙ run-stopped p rs ne
+
+-- a progress without a breach is its state and its tally, and no more
+abbrev pub Tidy : Progress → Type 0
+Tidy p = p .rule ≡ 0 → p ≡ from (p .judge) (p .tally)
+
+pub step-tidy : (j : Judge) (t : Tally) (r : Taken) → Tidy (stepOf j t r)
+unfolding stepOf
+step-tidy j t r =
+    let name = ruleOf j r (diffOf j (r .lines .stamp)) in
+    choice Tidy (eqb (name .number) 0) (λ _ _. refl) (λ e z. absurd (eqb-false (name .number) 0 e z))
+
+next-tidy : (p : Progress) (r : Taken) → Tidy p → Tidy (nextOf p r)
+unfolding nextOf
+next-tidy p r h = choice Tidy (eqb (p .rule) 0) (λ _. step-tidy (p .judge) (p .tally) r) (λ _. h)
+
+pub run-tidy : (p : Progress) (rs : List Taken) → Tidy p → Tidy (runOf p rs)
+run-tidy p [] h = h
+run-tidy p (r ∷ rs) h = run-tidy (nextOf p r) rs (next-tidy p r h)
+
+-- of a run from the start
+pub run-open : (j : Judge) (t : Tally) (rs : List Taken) → Tidy (runOf (from j t) rs)
+run-open j t rs = run-tidy (from j t) rs (λ _. refl)
 
 -- a recording judged in two parts
 pub run-append : (p : Progress) (a b : List Taken) → runOf p (a ++ b) ≡ runOf (runOf p a) b
@@ -231,8 +285,8 @@ moved-sound j r d h la a =
     record {
       low = h .low;
       high = h .high;
-      transfer = transfer-kept (j .transfer) (r .start) (r .ack) (r .tm1) (r .tm0) (r .ad) d (h .transfer) (a .1 .1 .1 .1 .0) (a .1 .1 .1 .1 .1 .1 .1 .1 .1 .0) (a .1 .1 .1 .1 .1 .1 .1 .1 .1 .1 .0);
-      turn = turn-kept (j .limit) (j .wave) (r .rqst) (r .start) (r .arb) d (h .low) (h .turn) (a .1 .1 .1 .1 .1 .1 .1 .1 .0);
+      transfer = transfer-kept (j .transfer) (r .start) (r .ack) (r .tm1) (r .tm0) (r .ad) d (h .transfer) (seventh j r d a) (twelfth j r d a) (thirteenth j r d a);
+      turn = turn-kept (j .limit) (j .wave) (r .rqst) (r .start) (r .arb) d (h .low) (h .turn) (eleventh j r d a);
       arb = arb-kept (j .wave) (r .rqst) (r .start) (r .arb) d la (h .arb);
     }
 
@@ -242,7 +296,7 @@ fresh-sound limit low high = record { low = low; high = high; transfer = tt; tur
 pub reset-sound : (j : Judge) (stamp : ℕ) → SoundJudge j → SoundJudge (resetOf j stamp)
 reset-sound j stamp h = record { low = h .low; high = h .high; transfer = tt; turn = omega arith; arb = omega arith }
 
-pub judge-kept : (j : Judge) (r : Taken) (d : ℕ) → SoundJudge j → r .lines .arb ≤ 15 → ruleOf j r d ≡ 0 → SoundJudge (judgeOf j (r .lines) d)
+pub judge-kept : (j : Judge) (r : Taken) (d : ℕ) → SoundJudge j → r .lines .arb ≤ 15 → ruleOf j r d .number ≡ 0 → SoundJudge (judgeOf j (r .lines) d)
 unfolding judgeOf
 judge-kept j r d h la z =
     choice SoundJudge (r .lines .reset) (λ _. reset-sound j (r .lines .stamp) h) (λ n. moved-sound j (r .lines) d h la (later-holds j r d z n))
@@ -271,8 +325,8 @@ pub step-sound : (j : Judge) (t : Tally) (r : Taken) → SoundJudge j → SoundT
 unfolding stepOf
 step-sound j t r hj ht la =
     let d = diffOf j (r .lines .stamp) in
-    choice (SoundProgress (t .records + 1)) (eqb (ruleOf j r d) 0)
-    (λ e. let z = eqb-true (ruleOf j r d) 0 e in
+    choice (SoundProgress (t .records + 1)) (eqb (ruleOf j r d .number) 0)
+    (λ e. let z = eqb-true (ruleOf j r d .number) 0 e in
     record {
       judge = judge-kept j r d hj la z;
       tally = tally-kept t (isOpen (j .transfer)) (r .lines .reset) (r .lines .start) (r .lines .ack) d ht (diff-le j (r .lines .stamp) (stamp-holds j r d z));

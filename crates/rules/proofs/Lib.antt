@@ -7,6 +7,7 @@ pub mod Reach
 pub mod Exactly
 pub mod Parts
 pub mod Told
+pub mod OneKind
 pub mod Cases
 pub mod Stamps
 pub mod Answers

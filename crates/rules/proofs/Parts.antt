@@ -16,11 +16,7 @@ use Rattle.rules.specs.Bounds.{SoundJudge, SoundTally}
 use Rattle.rules.specs.Run.{recordsIn, from, runOf}
 use Rattle.rules.specs.Verdict.{mostRecords, refusalOf, verdictOf, outcomeIn, outcomeOf}
 use Rattle.rules.specs.Exact.{conforms, callsOf, joined, Whole}
-use Rattle.rules.proofs.Laws.{run-parts, run-sound, run-stopped, none-refused, refusal-none, outcome-judged}
-
--- the state and the tally of a run that broke no rule are all there is of it
-pub run-open : (p : Progress) → p .rule ≡ 0 → p ≡ from (p .judge) (p .tally)
-run-open p e = ap (λ (k : ℕ). record { rule = k; judge = p .judge; tally = p .tally }) e
+use Rattle.rules.proofs.Laws.{Tidy, run-tidy, run-parts, run-sound, run-stopped, none-refused, refusal-none, outcome-judged}
 
 conforms-open : (p : Progress) → p .rule ≡ 0 → conforms (verdictOf p) ≡ true
 unfolding verdictOf
@@ -39,11 +35,11 @@ whole-joined (part ∷ parts) w =
     omega arith
 
 -- from any progress: the calls give what one run over all the records gives
-from-here : (parts : List (List ℕ)) (p : Progress) → Whole parts → SoundJudge (p .judge) → SoundTally (p .tally) → p .tally .records + length (joined parts) / 16 ≤ mostRecords
+from-here : (parts : List (List ℕ)) (p : Progress) → Tidy p → Whole parts → SoundJudge (p .judge) → SoundTally (p .tally) → p .tally .records + length (joined parts) / 16 ≤ mostRecords
     → callsOf parts (outcomeIn p) ≡ outcomeIn (runOf p (recordsIn (length (joined parts) / 16) (joined parts)))
-from-here [] p w hj ht room = refl
-from-here (part ∷ parts) p w hj ht room =
-    by-test (eqb (p .rule) 0) (λ e. going (eqb-true (p .rule) 0 e) (λ a b c. from-here parts (runOf p (recordsIn (length part / 16) part)) (w .1) a b c)) (λ e. stopped (eqb-false (p .rule) 0 e) (from-here parts p (w .1) hj ht (omega (arith, sizes))))
+from-here [] p h w hj ht room = refl
+from-here (part ∷ parts) p h w hj ht room =
+    by-test (eqb (p .rule) 0) (λ e. going (eqb-true (p .rule) 0 e) (λ a b c. from-here parts (runOf p (recordsIn (length part / 16) part)) (run-tidy p (recordsIn (length part / 16) part) h) (w .1) a b c)) (λ e. stopped (eqb-false (p .rule) 0 e) (from-here parts p h (w .1) hj ht (omega (arith, sizes))))
   where
     sizes : length (part ++ joined parts) ≡ length part + length (joined parts)
     sizes = length-append part (joined parts)
@@ -61,11 +57,11 @@ from-here (part ∷ parts) p w hj ht room =
         → (SoundJudge (next .judge) → SoundTally (next .tally) → next .tally .records + length (joined parts) / 16 ≤ mostRecords → callsOf parts (outcomeIn next) ≡ outcomeIn (runOf next (recordsIn (length (joined parts) / 16) (joined parts))))
         → callsOf (part ∷ parts) (outcomeIn p) ≡ outcomeIn (runOf p (recordsIn (length (part ++ joined parts) / 16) (part ++ joined parts)))
     going e rest =
-        let h = run-sound p (length part / 16) part hj ht in
+        let s = run-sound p (length part / 16) part hj ht in
         let even = w .0 in
         let call = outcome-judged part (p .judge) (p .tally) (refusal-none (length part) (p .judge) (p .tally) hj ht (omega (arith, sizes)) even) in
-        ap (callsOf parts) (cond-true _ _ (conforms-open p e) ∙ call ∙ ap (λ (x : Progress). outcomeIn (runOf x (recordsIn (length part / 16) part))) (sym (run-open p e)))
-        ∙ rest (h .judge) (h .tally) (omega (arith, sizes, h .count))
+        ap (callsOf parts) (cond-true _ _ (conforms-open p e) ∙ call ∙ ap (λ (x : Progress). outcomeIn (runOf x (recordsIn (length part / 16) part))) (sym (h e)))
+        ∙ rest (s .judge) (s .tally) (omega (arith, sizes, s .count))
         ∙ ap outcomeIn (sym (run-parts p part (joined parts) even))
 
 -- one call on all the bytes, where it is accepted, is as many calls on its parts
@@ -74,4 +70,4 @@ pub one-call-or-many : (parts : List (List ℕ)) (j : Judge) (t : Tally) → Who
 unfolding verdictOf
 one-call-or-many parts j t w e =
     let g = none-refused (length (joined parts)) j t e in
-    from-here parts (from j t) w (g .0) (g .1 .0) (g .1 .1 .0) ∙ sym (outcome-judged (joined parts) j t e)
+    from-here parts (from j t) (λ _. refl) w (g .0) (g .1 .0) (g .1 .1 .0) ∙ sym (outcome-judged (joined parts) j t e)

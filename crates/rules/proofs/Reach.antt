@@ -13,15 +13,17 @@ use Rattle.basics.specs.Lines.{one}
 use Rattle.basics.proofs.Bools.{choice, and-both, by-test}
 use Rattle.rules.specs.declared.Judge.{Judge}
 use Rattle.rules.specs.declared.Tally.{Tally}
+use Rattle.rules.specs.declared.Rule.{Rule}
 use Rattle.rules.specs.declared.Progress.{Progress}
 use Rattle.rules.specs.declared.Transfer.{Transfer}
 use Rattle.rules.specs.declared.Transfer.the-variants.{Idle, Open}
 use Rattle.rules.specs.Rules.{rule4, rule5}
 use Rattle.rules.specs.State.{isOpen, transferOf, freshJudge, diffOf, judgeOf, zeroTally, tallyOf}
-use Rattle.rules.specs.Run.{Taken, recordsIn, ruleOf, from, stepOf, runOf}
-use Rattle.rules.specs.Recording.{Lines, Recording, recordingIn, sixteen, gap}
+use Rattle.rules.specs.Run.{Taken, recordsIn, ruleOf, spanOf, from, broken, stepOf, runOf}
+use Rattle.rules.specs.Recording.{Lines, Recording, recordingIn, sixteen, gap, cycle}
 use Rattle.rules.specs.Thirteen.{rules, Keeps, Breaks}
-use Rattle.rules.specs.Totals.{Number, none, more, other, Aborts, Totals}
+use Rattle.rules.specs.Totals.{sum, Number, none, more, other, Aborts, Totals}
+use Rattle.rules.specs.Exact.{spanAt}
 use Rattle.rules.proofs.Laws.{later-holds, after, step-good, step-bad, next-open, run-stopped, arb-le}
 use Rattle.rules.proofs.Places.{below, clash, and-pair}
 use Rattle.rules.proofs.Hold.{Held, open-exact}
@@ -79,7 +81,7 @@ plain-balance false false true false x y z e h r4 r5 = absurd (false≢true r5)
 plain-balance false false false true x y z e h r4 r5 = omega arith
 plain-balance false false false false x y z e h r4 r5 = omega arith
 
-balance-next : (j : Judge) (t : Tally) (r : Taken) (d : ℕ) → ruleOf j r d ≡ 0 → Balanced j t → Balanced (judgeOf j (r .lines) d) (tallyOf t (isOpen (j .transfer)) (r .lines .reset) (r .lines .start) (r .lines .ack) d)
+balance-next : (j : Judge) (t : Tally) (r : Taken) (d : ℕ) → ruleOf j r d .number ≡ 0 → Balanced j t → Balanced (judgeOf j (r .lines) d) (tallyOf t (isOpen (j .transfer)) (r .lines .reset) (r .lines .start) (r .lines .ack) d)
 unfolding judgeOf
 balance-next j t r d z h =
     let l = r .lines in
@@ -108,15 +110,15 @@ before-fresh limit r low high =
       good = λ m lt. absurd (omega arith);
     }
 
-kept-of : (limit : ℕ) (r : Recording) (i n : ℕ) → n ≡ 0 → Found n (rules limit r i) → Keeps limit r i
+kept-of : (limit : ℕ) (r : Recording) (i : ℕ) (n : Rule) → n .number ≡ 0 → Found n (rules limit r i) → Keeps limit r i
 kept-of limit r i n z (inl k) = k .1
 kept-of limit r i n z (inr k) = absurd (k .0 z)
 
-broken-of : (limit : ℕ) (r : Recording) (i n : ℕ) → (n ≡ 0 → ⊥) → Found n (rules limit r i) → Breaks limit r i n
+broken-of : (limit : ℕ) (r : Recording) (i : ℕ) (n : Rule) → (n .number ≡ 0 → ⊥) → Found n (rules limit r i) → Breaks limit r i n
 broken-of limit r i n ne (inl k) = absurd (ne (k .0))
 broken-of limit r i n ne (inr k) = k .1
 
-before-next : (limit : ℕ) (r : Recording) (i : ℕ) (j : Judge) (t : Tally) (d : ℕ) → Before limit r i j t → r .lines i .arb ≤ 15 → d ≡ gap (r .lines) i → ruleOf j (takenAt r i) d ≡ 0
+before-next : (limit : ℕ) (r : Recording) (i : ℕ) (j : Judge) (t : Tally) (d : ℕ) → Before limit r i j t → r .lines i .arb ≤ 15 → d ≡ gap (r .lines) i → ruleOf j (takenAt r i) d .number ≡ 0
     → Before limit r (suc i) (judgeOf j (r .lines i) d) (tallyOf t (isOpen (j .transfer)) (r .lines i .reset) (r .lines i .start) (r .lines i .ack) d)
 before-next limit r i j t d h la ed z =
     record {
@@ -126,8 +128,18 @@ before-next limit r i j t d h la ed z =
       good = λ m lt. below m i lt (h .good m) (λ u. subst (Keeps limit r) (sym u) (kept-of limit r i _ z′ (lowest-exact limit r i j (h .judge) la)));
     }
   where
-    z′ : ruleOf j (takenAt r i) (gap (r .lines) i) ≡ 0
-    z′ = ap (ruleOf j (takenAt r i)) (sym ed) ∙ z
+    z′ : ruleOf j (takenAt r i) (gap (r .lines) i) .number ≡ 0
+    z′ = ap (λ x. ruleOf j (takenAt r i) x .number) (sym ed) ∙ z
+
+-- ---- the span at a breach
+-- the cycle in which record i stands is the sum of the differences, its own with them
+pub cycle-sum : (r : Lines) (i : ℕ) → cycle r i ≡ sum (gap r) (suc i)
+cycle-sum r zero = refl
+cycle-sum r (suc i) = ap (λ x. x + gap r (suc i)) (cycle-sum r i)
+
+-- the tally's span, and this record's difference where it counts, is the span that the recording has there
+span-exact : (r : Lines) (i : ℕ) (t : Tally) (d number : ℕ) → Totals r i t → d ≡ gap r i → spanOf t number d ≡ spanAt r i number
+span-exact r i t d number h e = rw (h .span, e, cycle-sum r i)
 
 -- ---- a run
 -- the records of the list stand in the recording from place i on
@@ -135,38 +147,42 @@ abbrev pub Listed : Recording → ℕ → List Taken → Type 0
 Listed r i [] = Unit {0}
 Listed r i (t ∷ ts) = (takenAt r i ≡ t) × Listed r (suc i) ts
 
+-- the rule that a progress names
+abbrev pub named : Progress → Rule
+named p = record { number = p .rule; kind = p .kind }
+
 -- where the judge has come of n records: through all of them, or to the first that breaks a rule
 pub record Reached (limit : ℕ) (r : Recording) (n : ℕ) (p : Progress) : Type 0 where
   pub place : ℕ
   pub before : Before limit r place (p .judge) (p .tally)
-  pub ends : ((p .rule ≡ 0) × (place ≡ n)) ⊎ ((p .rule ≡ 0 → ⊥) × (place < n) × Breaks limit r place (p .rule))
+  pub ends : ((p .rule ≡ 0) × (place ≡ n)) ⊎ ((p .rule ≡ 0 → ⊥) × (place < n) × Breaks limit r place (named p) × (p .span ≡ spanAt (r .lines) place (p .rule)))
 
 reached-from : (limit : ℕ) (r : Recording) (n i : ℕ) (p : Progress) (ts : List Taken) → ((m : ℕ) → r .lines m .arb ≤ 15) → Listed r i ts → n ≡ i + length ts → p .rule ≡ 0 → Before limit r i (p .judge) (p .tally) → Reached limit r n (runOf p ts)
 reached-from limit r n i p [] la at en z h = record { place = i; before = h; ends = inl (z, omega arith) }
 reached-from limit r n i p (x ∷ ts) la at en z h =
-    by-test (eqb rule 0) (λ e. good (eqb-true rule 0 e) (reached-from limit r n (suc i) (after (p .judge) (p .tally) (takenAt r i)) ts la (at .1) (omega arith) refl)) (λ e. bad (eqb-false rule 0 e))
+    by-test (eqb (rule .number) 0) (λ e. good (eqb-true (rule .number) 0 e) (reached-from limit r n (suc i) (after (p .judge) (p .tally) (takenAt r i)) ts la (at .1) (omega arith) refl)) (λ e. bad (eqb-false (rule .number) 0 e))
   where
     d : ℕ
     d = diffOf (p .judge) (r .lines i .stamp)
 
-    rule : ℕ
+    rule : Rule
     rule = ruleOf (p .judge) (takenAt r i) d
 
     same-run : runOf p (x ∷ ts) ≡ runOf (stepOf (p .judge) (p .tally) (takenAt r i)) ts
     same-run = ap (λ (y : Progress). runOf y ts) (next-open p x z ∙ ap (stepOf (p .judge) (p .tally)) (sym (at .0)))
 
-    good : rule ≡ 0 → (Before limit r (suc i) (after (p .judge) (p .tally) (takenAt r i) .judge) (after (p .judge) (p .tally) (takenAt r i) .tally) → Reached limit r n (runOf (after (p .judge) (p .tally) (takenAt r i)) ts)) → Reached limit r n (runOf p (x ∷ ts))
+    good : rule .number ≡ 0 → (Before limit r (suc i) (after (p .judge) (p .tally) (takenAt r i) .judge) (after (p .judge) (p .tally) (takenAt r i) .tally) → Reached limit r n (runOf (after (p .judge) (p .tally) (takenAt r i)) ts)) → Reached limit r n (runOf p (x ∷ ts))
     good e rest =
         subst (Reached limit r n) (sym (same-run ∙ ap (λ (y : Progress). runOf y ts) (step-good (p .judge) (p .tally) (takenAt r i) e)))
         (rest (before-next limit r i (p .judge) (p .tally) d h (la i) (h .judge .apart) e))
 
-    bad : (rule ≡ 0 → ⊥) → Reached limit r n (runOf p (x ∷ ts))
+    bad : (rule .number ≡ 0 → ⊥) → Reached limit r n (runOf p (x ∷ ts))
     bad ne =
-        subst (Reached limit r n) (sym (same-run ∙ ap (λ (y : Progress). runOf y ts) (step-bad (p .judge) (p .tally) (takenAt r i) ne) ∙ run-stopped (record { rule = rule; judge = p .judge; tally = p .tally }) ts ne))
+        subst (Reached limit r n) (sym (same-run ∙ ap (λ (y : Progress). runOf y ts) (step-bad (p .judge) (p .tally) (takenAt r i) ne) ∙ run-stopped (broken rule d (p .judge) (p .tally)) ts ne))
         (record {
           place = i;
           before = h;
-          ends = inr (ne, omega arith, broken-of limit r i rule ne (subst (λ y. Found (ruleOf (p .judge) (takenAt r i) y) (rules limit r i)) (sym (h .judge .apart)) (lowest-exact limit r i (p .judge) (h .judge) (la i))));
+          ends = inr (ne, omega arith, broken-of limit r i rule ne (subst (λ y. Found (ruleOf (p .judge) (takenAt r i) y) (rules limit r i)) (sym (h .judge .apart)) (lowest-exact limit r i (p .judge) (h .judge) (la i))), span-exact (r .lines) i (p .tally) d (rule .number) (h .totals) (h .judge .apart));
         })
 
 listed : (bytes : List ℕ) (i n : ℕ) → Listed (recordingIn bytes) i (recordsIn n (drop (i * 16) bytes))

@@ -10,10 +10,10 @@ use Rattle.basics.specs.Lines.{one}
 use Rattle.basics.proofs.Bools.{cond-true, cond-false, and-both, by-test, not-true as refuted, implied, implying}
 use Rattle.rules.specs.declared.Wave.{Wave}
 use Rattle.basics.specs.Order.{implies}
-use Rattle.rules.specs.Rules.{rule8, rule8a, rule8b, rule8c, rule9, rule10, rule11}
+use Rattle.rules.specs.Rules.{rule8a, rule8b, rule8c, rule9, rule10, rule11}
 use Rattle.rules.specs.State.{askedOf, twiceOf, capped, waveOf, freshWave}
 use Rattle.rules.specs.Recording.{Lines, gap, cycle, count, NoReset, Asked, Began, LastStart, startWith, Owned}
-use Rattle.rules.specs.Thirteen.{Rule8, Rule8a, Rule8b, Rule8c, Rule9, Rule10, Rule11}
+use Rattle.rules.specs.Thirteen.{Rule8a, Rule8b, Rule8c, Rule9, Rule10, Rule11}
 use Rattle.rules.proofs.Places.{below, same-place, more, less, alone, count-none, clash, and-pair, not-off, or-split, or-left, or-right, itself, not-iff, leb-iff, both-imply-iff}
 
 -- each record up to i stands later than the one before it (rule 2)
@@ -360,29 +360,24 @@ of-wave r i x P test = (
   λ g. implying (r i .start && asked r i) x (λ e. let z = and-both (r i .start) (asked r i) e in test (z .1) .1 (g (z .0))),
 )
 
-pub rule8-exact : (r : Lines) (i : ℕ) (w : Wave) → Forward r i → WaveIs r i w → (rule8 (r i .start) (askedOf w (gap r i)) (twiceOf w (gap r i)) (w .owned) (w .since + gap r i) ≡ true) ↔ Rule8 r i
-rule8-exact r i w f h =
-    rw (asked-is r i w h, twice-is r i w h) (
-      λ e. let p = and-both (rule8a s y (w .owned) && rule8b s y (twice r i)) (rule8c s y d) e in
-          let q = and-both (rule8a s y (w .owned)) (rule8b s y (twice r i)) (p .0) in
-          (parking .0 (q .0), long .0 (q .1), apart .0 (p .1)),
-      λ k. and-pair (and-pair (parking .1 (k .0)) (long .1 (k .1))) (apart .1 (k .2)),
-    )
+pub rule8a-exact : (r : Lines) (i : ℕ) (w : Wave) → Forward r i → WaveIs r i w → (rule8a (r i .start) (askedOf w (gap r i)) (w .owned) ≡ true) ↔ Rule8a r i
+rule8a-exact r i w f h =
+    rw (asked-is r i w h) (both-imply-iff (r i .start) (not (asked r i)) (w .owned) (itself (r i .start)) (not-iff (asked r i) (asked-exact r i f)) (λ _ _. h .owned))
+
+pub rule8b-exact : (r : Lines) (i : ℕ) (w : Wave) → Forward r i → WaveIs r i w → (rule8b (r i .start) (askedOf w (gap r i)) (twiceOf w (gap r i)) ≡ true) ↔ Rule8b r i
+rule8b-exact r i w f h =
+    rw (asked-is r i w h, twice-is r i w h)
+    (both-imply-iff (r i .start) (asked r i) (twice r i) (itself (r i .start)) (asked-exact r i f) (λ _ _. twice-exact r i f))
+
+pub rule8c-exact : (r : Lines) (i : ℕ) (w : Wave) → Forward r i → WaveIs r i w → (rule8c (r i .start) (askedOf w (gap r i)) (w .since + gap r i) ≡ true) ↔ Rule8c r i
+rule8c-exact r i w f h =
+    rw (asked-is r i w h)
+    (of-wave r i (leb 3 d) (λ m. cycle r m + 3 ≤ cycle r i) (λ y.
+    by-last r i (w .since) (w .arb) (w .turn) (leb 3 d) (λ m. cycle r m + 3 ≤ cycle r i) f (h .ride) y
+    (λ es ea. le-leb 3 d (omega arith)) (λ m v c es ea. three m v c es)))
   where
-    s : Bool
-    s = r i .start
-
-    y : Bool
-    y = asked r i
-
     d : ℕ
     d = w .since + gap r i
-
-    parking : (rule8a s y (w .owned) ≡ true) ↔ Rule8a r i
-    parking = both-imply-iff s (not y) (w .owned) (itself s) (not-iff y (asked-exact r i f)) (λ _ _. h .owned)
-
-    long : (rule8b s y (twice r i) ≡ true) ↔ Rule8b r i
-    long = both-imply-iff s y (twice r i) (itself s) (asked-exact r i f) (λ _ _. twice-exact r i f)
 
     three : (m v : ℕ) → cycle r m + v + gap r i ≡ cycle r i → w .since ≡ capped v → (leb 3 d ≡ true) ↔ (cycle r m + 3 ≤ cycle r i)
     three m v c es =
@@ -392,12 +387,6 @@ rule8-exact r i w f h =
         (λ e. let z : w .since ≡ 3 = es ∙ cond-false v 3 e in
         let u = ltb-false v 3 e in
         (λ x. let q : cycle r m + 3 ≤ cycle r i = omega arith in q, λ y. le-leb 3 d (omega arith)))
-
-    apart : (rule8c s y d ≡ true) ↔ Rule8c r i
-    apart =
-        of-wave r i (leb 3 d) (λ m. cycle r m + 3 ≤ cycle r i) (λ z.
-        by-last r i (w .since) (w .arb) (w .turn) (leb 3 d) (λ m. cycle r m + 3 ≤ cycle r i) f (h .ride) z
-        (λ es ea. le-leb 3 d (omega arith)) (λ m v c es ea. three m v c es))
 
 pub rule9-exact : (r : Lines) (i : ℕ) (w : Wave) → WaveIs r i w → (rule9 (w .rqst) (gap r i) (r i .rqst) (r i .start) ≡ true) ↔ Rule9 r i
 rule9-exact r i w h = rw (h .rqst) (at-place i)
@@ -459,6 +448,26 @@ rule11-exact limit r i w low f h = rw (asked-is r i w h) (λ r10. (
         let z = v .turn ∙ ap (λ x. count (startWith r n x) i) (sym e) in
         let u = g n (began n v y) in
         omega arith
+
+-- ---- a wave that has just begun has had no START
+prior-on : (r : Lines) (i b m : ℕ) → Lasting r i b → b < m → m < i → prior r i ≡ true
+prior-on r zero b m h bm mi = absurd (omega arith)
+prior-on r (suc zero) b m h bm mi = absurd (omega arith)
+prior-on r (suc (suc k)) b m h bm mi =
+    and-pair (not-off (h .unbroken (suc k) (omega arith) (omega arith)))
+    (and-pair (eq-eqb (gap r (suc k)) 1 (h .each (suc k) (omega arith) (omega arith)))
+    (and-pair (h .active k (omega arith) (omega arith)) (not-off (h .unbroken k (omega arith) (omega arith)))))
+
+pub just-begun : (r : Lines) (i : ℕ) (w : Wave) → WaveIs r i w → w .prior ≡ false → w .since ≡ 3
+just-begun r i w h e = by-ride (h .ride)
+  where
+    by-ride : Riding r i (w .since) (w .arb) (w .turn) → w .since ≡ 3
+    by-ride (off idle three _ _) = three
+    by-ride (on act b v) = by-start (v .latest)
+      where
+        by-start : Latest r i b (w .since) (w .arb) → w .since ≡ 3
+        by-start (unstarted _ three _) = three
+        by-start (started m x l _ _ _) = clash (prior-on r i b m (v .lasts) (l .turn .after) (l .turn .earlier)) (sym (h .prior) ∙ e)
 
 -- where RQST is active one cycle before, a wave lasts until then: rules 8c, 10 and 11 pass over no START of a wave
 pub asked-began : (r : Lines) (i : ℕ) (w : Wave) → Forward r i → WaveIs r i w → Asked r i 1 → (b : ℕ) × Began r i b

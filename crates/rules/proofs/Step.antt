@@ -7,21 +7,22 @@ use mathlib.Core.Logic.{_↔_, _⊎_, inl, inr}
 use native.Mathlib.Omega.{arith}
 use lib.Dec.{ltb, leb}
 use borrow.Author.Tests.{ltb-true, lt-ltb, eqb-true, eq-eqb}
-use Rattle.basics.specs.Order.{unless}
 use Rattle.basics.proofs.Bools.{choice}
 use Rattle.record.specs.declared.Record.{Record}
 use Rattle.codes.specs.Parity.{parityOf}
+use Rattle.rules.specs.declared.Rule.{Rule}
 use Rattle.rules.specs.declared.Judge.{Judge}
+use Rattle.rules.specs.Names.{only, kind8a, kind8b, kind8c}
 use Rattle.rules.specs.Rules.{rule1, rule2, rule3, rule6, rule10, rule11}
 use Rattle.rules.specs.State.{askedOf, freshJudge, diffOf, resetOf, movedOf, judgeOf}
 use Rattle.rules.specs.Bounds.{SoundJudge}
-use Rattle.rules.specs.Run.{Taken, lowest, laterRules, ruleOf}
+use Rattle.rules.specs.Run.{Taken, lowest, laterRules, rulesOf, ruleOf}
 use Rattle.rules.specs.Recording.{Lines, Recording, gap}
 use Rattle.rules.specs.Thirteen.{Rule1, Rule2, Rule6, Rule11, fromThird, rules, AllKept, FirstOf}
-use Rattle.rules.proofs.Laws.{AllHold, later-holds, stamp-holds, fresh-sound, reset-sound, moved-sound}
+use Rattle.rules.proofs.Laws.{AllHold, later-holds, seventh, ninth, tenth, stamp-holds, fresh-sound, reset-sound, moved-sound}
 use Rattle.rules.proofs.Places.{below, itself, and-iff, leb-iff, implies-iff, both-imply-iff}
 use Rattle.rules.proofs.Hold.{Held, held-reset, held-next, rule4-exact, rule5-exact, rule7-exact, rule12-exact, rule13-exact}
-use Rattle.rules.proofs.Ride.{Forward, WaveIs, wave-fresh, wave-reset, wave-next, rule8-exact, rule9-exact, rule10-exact, rule11-exact}
+use Rattle.rules.proofs.Ride.{Forward, WaveIs, wave-fresh, wave-reset, wave-next, rule8a-exact, rule8b-exact, rule8c-exact, rule9-exact, rule10-exact, rule11-exact}
 
 -- the record at place i, as the judge takes it
 abbrev pub takenAt : Recording → ℕ → Taken
@@ -81,13 +82,13 @@ next-moved limit r i j h f la e a =
       limited = h .limited;
       seen = sym (lt-ltb 0 (suc i) (omega arith));
       apart = refl;
-      transfer = held-next r i (j .transfer) (h .transfer) e (rule7-exact r i .0 (a .1 .1 .1 .1 .0));
-      wave = wave-next r i (j .wave) f (h .wave) e (a .1 .1 .1 .1 .1 .1 .0) (a .1 .1 .1 .1 .1 .1 .1 .0);
+      transfer = held-next r i (j .transfer) (h .transfer) e (rule7-exact r i .0 (seventh j (r i) (gap r i) a));
+      wave = wave-next r i (j .wave) f (h .wave) e (ninth j (r i) (gap r i) a) (tenth j (r i) (gap r i) a);
       sound = moved-sound j (r i) (gap r i) (h .sound) la a;
       forward = λ m b lt. f m b (omega arith);
     }
 
-pub judge-next : (limit : ℕ) (r : Recording) (i : ℕ) (j : Judge) → JudgeIs limit (r .lines) i j → r .lines i .arb ≤ 15 → ruleOf j (takenAt r i) (gap (r .lines) i) ≡ 0
+pub judge-next : (limit : ℕ) (r : Recording) (i : ℕ) (j : Judge) → JudgeIs limit (r .lines) i j → r .lines i .arb ≤ 15 → ruleOf j (takenAt r i) (gap (r .lines) i) .number ≡ 0
     → JudgeIs limit (r .lines) (suc i) (judgeOf j (r .lines i) (gap (r .lines) i))
 unfolding judgeOf
 judge-next limit r i j h la z =
@@ -96,11 +97,11 @@ judge-next limit r i j h la z =
     choice (JudgeIs limit (r .lines) (suc i)) (r .lines i .reset) (λ e. next-reset limit (r .lines) i j h f e) (λ e. next-moved limit (r .lines) i j h f la e (later-holds j (takenAt r i) d z e))
 
 -- ---- the lowest rule
--- 0, and every rule of the list holds; or the number of the first that does not
-abbrev pub Found : ℕ → List (ℕ × Type 0) → Type 0
-Found number ps = ((number ≡ 0) × AllKept ps) ⊎ ((number ≡ 0 → ⊥) × FirstOf number ps)
+-- no rule, and every rule of the list holds; or the first that does not
+abbrev pub Found : Rule → List (Rule × Type 0) → Type 0
+Found name ps = ((name .number ≡ 0) × AllKept ps) ⊎ ((name .number ≡ 0 → ⊥) × FirstOf name ps)
 
-first : (b : Bool) (n rest : ℕ) (A : Type 0) (ps : List (ℕ × Type 0)) → 0 < n → (b ≡ true) ↔ A → (b ≡ true → A → Found rest ps) → Found (unless b n rest) ((n, A) ∷ ps)
+first : (b : Bool) (n rest : Rule) (A : Type 0) (ps : List (Rule × Type 0)) → 0 < n .number → (b ≡ true) ↔ A → (b ≡ true → A → Found rest ps) → Found (cond b rest n) ((n, A) ∷ ps)
 first true n rest A ps pos p q = let a = p .0 refl in put a (q refl a)
   where
     put : A → Found rest ps → Found rest ((n, A) ∷ ps)
@@ -109,11 +110,11 @@ first true n rest A ps pos p q = let a = p .0 refl in put a (q refl a)
 first false n rest A ps pos p q = inr ((λ e. omega arith), inl ((λ a. false≢true (p .1 a)), refl))
 
 -- test by test, each exact where those before it hold
-data Exactly : List (ℕ × Bool) → List (ℕ × Type 0) → Type 1 where
+data Exactly : List (Rule × Bool) → List (Rule × Type 0) → Type 1 where
   none : Exactly [] []
-  also : {b : Bool} {A : Type 0} {ts : List (ℕ × Bool)} {ps : List (ℕ × Type 0)} (n : ℕ) → 0 < n → (b ≡ true) ↔ A → (b ≡ true → A → Exactly ts ps) → Exactly ((n, b) ∷ ts) ((n, A) ∷ ps)
+  also : {b : Bool} {A : Type 0} {ts : List (Rule × Bool)} {ps : List (Rule × Type 0)} (n : Rule) → 0 < n .number → (b ≡ true) ↔ A → (b ≡ true → A → Exactly ts ps) → Exactly ((n, b) ∷ ts) ((n, A) ∷ ps)
 
-found-of : (ts : List (ℕ × Bool)) (ps : List (ℕ × Type 0)) → Exactly ts ps → Found (lowest ts) ps
+found-of : (ts : List (Rule × Bool)) (ps : List (Rule × Type 0)) → Exactly ts ps → Found (lowest ts) ps
 found-of _ _ none = inl (refl, tt)
 found-of _ _ (also {b} {A} {ts} {ps} n pos p q) = first b n (lowest ts) A ps pos p (λ e a. found-of ts ps (q e a))
 
@@ -132,27 +133,30 @@ rule6-exact r i =
 
 later-exact : (limit : ℕ) (r : Lines) (i : ℕ) (j : Judge) → JudgeIs limit r i j → r i .arb ≤ 15 → Forward r i → Exactly (laterRules j (r i) (gap r i)) (fromThird limit r i)
 later-exact limit r i j h la f =
-    also 3 (omega arith) (rule3-exact (r i)) (λ _ _.
-    also 4 (omega arith) (rule4-exact r i (j .transfer) (h .transfer)) (λ _ _.
-    also 5 (omega arith) (rule5-exact r i (j .transfer) (h .transfer)) (λ _ _.
-    also 6 (omega arith) (rule6-exact r i) (λ _ _.
-    also 7 (omega arith) (rule7-exact r i) (λ _ _.
-    also 8 (omega arith) (rule8-exact r i (j .wave) f (h .wave)) (λ _ _.
-    also 9 (omega arith) (rule9-exact r i (j .wave) (h .wave)) (λ _ _.
-    also 10 (omega arith) (rule10-exact r i (j .wave) f (h .wave) la) (λ tenth _.
-    also 11 (omega arith) (rule11-here tenth) (λ _ _.
-    also 12 (omega arith) (rule12-exact r i (j .transfer) (h .transfer)) (λ _ _.
-    also 13 (omega arith) (rule13-exact r i (j .transfer) (h .transfer) (h .sound .transfer)) (λ _ _. none)))))))))))
+    also (only 3) (omega arith) (rule3-exact (r i)) (λ _ _.
+    also (only 4) (omega arith) (rule4-exact r i (j .transfer) (h .transfer)) (λ _ _.
+    also (only 5) (omega arith) (rule5-exact r i (j .transfer) (h .transfer)) (λ _ _.
+    also (only 6) (omega arith) (rule6-exact r i) (λ _ _.
+    also (only 7) (omega arith) (rule7-exact r i) (λ _ _.
+    also kind8a (omega arith) (rule8a-exact r i (j .wave) f (h .wave)) (λ _ _.
+    also kind8b (omega arith) (rule8b-exact r i (j .wave) f (h .wave)) (λ _ _.
+    also kind8c (omega arith) (rule8c-exact r i (j .wave) f (h .wave)) (λ _ _.
+    also (only 9) (omega arith) (rule9-exact r i (j .wave) (h .wave)) (λ _ _.
+    also (only 10) (omega arith) (rule10-exact r i (j .wave) f (h .wave) la) (λ falls _.
+    also (only 11) (omega arith) (rule11-here falls) (λ _ _.
+    also (only 12) (omega arith) (rule12-exact r i (j .transfer) (h .transfer)) (λ _ _.
+    also (only 13) (omega arith) (rule13-exact r i (j .transfer) (h .transfer) (h .sound .transfer)) (λ _ _. none)))))))))))))
   where
     rule11-here : rule10 (r i .start) (askedOf (j .wave) (gap r i)) (r i .arb) (j .wave .arb) ≡ true → (rule11 (j .limit) (r i .start) (askedOf (j .wave) (gap r i)) (r i .arb) (j .wave .arb) (j .wave .turn) ≡ true) ↔ Rule11 limit r i
-    rule11-here tenth = subst (λ n. (rule11 (j .limit) (r i .start) (askedOf (j .wave) (gap r i)) (r i .arb) (j .wave .arb) (j .wave .turn) ≡ true) ↔ Rule11 n r i) (h .limited)
-        (rule11-exact (j .limit) r i (j .wave) (h .sound .low) f (h .wave) tenth)
+    rule11-here falls = subst (λ n. (rule11 (j .limit) (r i .start) (askedOf (j .wave) (gap r i)) (r i .arb) (j .wave .arb) (j .wave .turn) ≡ true) ↔ Rule11 n r i) (h .limited)
+        (rule11-exact (j .limit) r i (j .wave) (h .sound .low) f (h .wave) falls)
 
 pub lowest-exact : (limit : ℕ) (r : Recording) (i : ℕ) (j : Judge) → JudgeIs limit (r .lines) i j → r .lines i .arb ≤ 15 → Found (ruleOf j (takenAt r i) (gap (r .lines) i)) (rules limit r i)
 unfolding ruleOf
 lowest-exact limit r i j h la =
-    first (rule1 (r .spare i)) 1 (unless (rule2 (j .seen) d) 2 (cond (l i .reset) 0 (lowest (laterRules j (l i) d)))) (Rule1 (r .spare) i) ((2, Rule2 l i) ∷ cond (l i .reset) [] (fromThird limit l i)) (omega arith) (eqb-true (r .spare i) 0, eq-eqb (r .spare i) 0) (λ _ _.
-    first (rule2 (j .seen) d) 2 (cond (l i .reset) 0 (lowest (laterRules j (l i) d))) (Rule2 l i) (cond (l i .reset) [] (fromThird limit l i)) (omega arith) (rule2-exact limit l i j h) (λ _ r2. by-reset (l i .reset) (forward-to limit l i j h r2)))
+    found-of (rulesOf j (takenAt r i) d) (rules limit r i)
+    (also (only 1) (omega arith) (eqb-true (r .spare i) 0, eq-eqb (r .spare i) 0) (λ _ _.
+    also (only 2) (omega arith) (rule2-exact limit l i j h) (λ _ r2. by-reset (l i .reset) (forward-to limit l i j h r2))))
   where
     l : Lines
     l = r .lines
@@ -160,6 +164,6 @@ lowest-exact limit r i j h la =
     d : ℕ
     d = gap l i
 
-    by-reset : (b : Bool) → Forward l i → Found (cond b 0 (lowest (laterRules j (l i) d))) (cond b [] (fromThird limit l i))
-    by-reset true f = inl (refl, tt)
-    by-reset false f = found-of (laterRules j (l i) d) (fromThird limit l i) (later-exact limit l i j h la f)
+    by-reset : (b : Bool) → Forward l i → Exactly (cond b [] (laterRules j (l i) d)) (cond b [] (fromThird limit l i))
+    by-reset true f = none
+    by-reset false f = later-exact limit l i j h la f

@@ -18,19 +18,19 @@ use Rattle.rules.specs.declared.Progress.{Progress}
 use Rattle.rules.specs.declared.Verdict.{Verdict}
 use Rattle.rules.specs.declared.Verdict.the-variants.{Conforming}
 use Rattle.rules.specs.declared.Outcome.{Outcome}
+use Rattle.rules.specs.Names.{noRule}
 use Rattle.rules.specs.State.{freshJudge, zeroTally, diffOf}
 use Rattle.basics.specs.Numbers.{lawfulLimit}
 use Rattle.rules.specs.Bounds.{SoundJudge, SoundTally}
-use Rattle.rules.specs.Run.{Taken, takenIn, recordsIn, ruleOf, from, nextOf, runOf}
+use Rattle.rules.specs.Run.{Taken, takenIn, recordsIn, ruleOf, from, broken, nextOf, runOf}
 use Rattle.rules.specs.Verdict.{mostRecords, freshOf, refusalOf, refusedBy, verdictOf, outcomeIn, outcomeOf}
 use Rattle.rules.specs.Recording.{recordingIn}
 use Rattle.rules.specs.Thirteen.{Breaks}
 use Rattle.rules.specs.Totals.{Totals}
-use Rattle.rules.specs.Exact.{counted, Exact, After, fresh, later, Told, tooMany, torn, judged, conforms}
-use Rattle.rules.proofs.Laws.{SoundProgress, step-good, step-bad, next-open, run-stopped, records-append, run-parts, run-sound, fresh-sound, sound-judge, sound-tally, none-refused, refusal-none, outcome-judged, outcome-refused}
+use Rattle.rules.specs.Exact.{spanAt, counted, Exact, After, fresh, later, Told, tooMany, torn, judged, conforms}
+use Rattle.rules.proofs.Laws.{SoundProgress, Tidy, step-good, step-bad, run-open, next-open, run-stopped, records-append, run-parts, run-sound, fresh-sound, sound-judge, sound-tally, none-refused, refusal-none, outcome-judged, outcome-refused}
 use Rattle.rules.proofs.Reach.{Reached, reached}
 use Rattle.rules.proofs.Exactly.{rightly-only, totals-only, reached-exact}
-use Rattle.rules.proofs.Parts.{run-open}
 
 -- ---- what a verdict of conforming says
 refused-not : (n : ℕ) → conforms (refusedBy n) ≡ false
@@ -72,7 +72,7 @@ pub record PastIs (limit : ℕ) (past : List ℕ) (j : Judge) (t : Tally) : Type
   pub whole : length past % 16 ≡ 0
   pub run : runOf (start limit) (recordsIn (length past / 16) past) ≡ from j t
 
-past-is : (limit : ℕ) (past : List ℕ) (j : Judge) (t : Tally) → After limit past j t → PastIs limit past j t
+pub past-is : (limit : ℕ) (past : List ℕ) (j : Judge) (t : Tally) → After limit past j t → PastIs limit past j t
 past-is limit past j t (fresh e) =
     let z = fresh-is limit j e in
     record { low = z .0; high = z .1; whole = refl; run = ap (λ (x : Judge). from x zeroTally) (sym (z .2)) }
@@ -91,7 +91,7 @@ past-is limit _ _ _ (later {past} {j} {next} {t} {tally} now a e) =
       whole = omega arith;
       run = run-parts (start limit) past now w
           ∙ ap (λ (x : Progress). runOf x (recordsIn (length now / 16) now)) (h .run)
-          ∙ run-open p shut
+          ∙ run-open j t (recordsIn (length now / 16) now) shut
           ∙ ap (λ (o : Outcome). from (o .judge) (o .tally)) is;
     }
 
@@ -101,11 +101,11 @@ after-only limit past j k t u a b =
     ap (λ (x : Progress). x .judge) (sym (past-is limit past j t a .run) ∙ past-is limit past k u b .run)
 
 -- ---- what the records before a breach leave
-stops : (n : ℕ) (p : Progress) (bytes : List ℕ) → p .rule ≡ 0
+stops : (n : ℕ) (p : Progress) (bytes : List ℕ) → p ≡ from (p .judge) (p .tally)
     → (m : ℕ) × (m ≤ n) × (runOf p (recordsIn m bytes) ≡ from (runOf p (recordsIn n bytes) .judge) (runOf p (recordsIn n bytes) .tally))
-stops zero p bytes z = (0, omega arith, run-open p z)
-stops (suc n) p bytes z =
-    by-test (eqb (ruleOf (p .judge) r d) 0) (λ e. going (eqb-true (ruleOf (p .judge) r d) 0 e) (stops n (nextOf p r) (drop 16 bytes))) (λ e. stopped (eqb-false (ruleOf (p .judge) r d) 0 e))
+stops zero p bytes h = (0, omega arith, h)
+stops (suc n) p bytes h =
+    by-test (eqb (ruleOf (p .judge) r d .number) 0) (λ e. going (eqb-true (ruleOf (p .judge) r d .number) 0 e) (stops n (nextOf p r) (drop 16 bytes))) (λ e. stopped (eqb-false (ruleOf (p .judge) r d .number) 0 e))
   where
     r : Taken
     r = takenIn (take 16 bytes)
@@ -113,18 +113,22 @@ stops (suc n) p bytes z =
     d : ℕ
     d = diffOf (p .judge) (r .lines .stamp)
 
-    going : ruleOf (p .judge) r d ≡ 0
-        → (nextOf p r .rule ≡ 0 → (m : ℕ) × (m ≤ n) × (runOf (nextOf p r) (recordsIn m (drop 16 bytes)) ≡ from (runOf (nextOf p r) (recordsIn n (drop 16 bytes)) .judge) (runOf (nextOf p r) (recordsIn n (drop 16 bytes)) .tally)))
+    z : p .rule ≡ 0
+    z = ap (λ (x : Progress). x .rule) h
+
+    going : ruleOf (p .judge) r d .number ≡ 0
+        → (nextOf p r ≡ from (nextOf p r .judge) (nextOf p r .tally) → (m : ℕ) × (m ≤ n) × (runOf (nextOf p r) (recordsIn m (drop 16 bytes)) ≡ from (runOf (nextOf p r) (recordsIn n (drop 16 bytes)) .judge) (runOf (nextOf p r) (recordsIn n (drop 16 bytes)) .tally)))
         → (m : ℕ) × (m ≤ suc n) × (runOf p (recordsIn m bytes) ≡ from (runOf p (recordsIn (suc n) bytes) .judge) (runOf p (recordsIn (suc n) bytes) .tally))
     going e rest =
-        let g = rest (ap (λ (x : Progress). x .rule) (next-open p r z ∙ step-good (p .judge) (p .tally) r e)) in
+        let is = next-open p r z ∙ step-good (p .judge) (p .tally) r e in
+        let g = rest (is ∙ ap (λ (x : Progress). from (x .judge) (x .tally)) (sym is)) in
         let le = g .1 in
         (suc (g .0), omega arith, g .2)
 
-    stopped : (ruleOf (p .judge) r d ≡ 0 → ⊥) → (m : ℕ) × (m ≤ suc n) × (runOf p (recordsIn m bytes) ≡ from (runOf p (recordsIn (suc n) bytes) .judge) (runOf p (recordsIn (suc n) bytes) .tally))
+    stopped : (ruleOf (p .judge) r d .number ≡ 0 → ⊥) → (m : ℕ) × (m ≤ suc n) × (runOf p (recordsIn m bytes) ≡ from (runOf p (recordsIn (suc n) bytes) .judge) (runOf p (recordsIn (suc n) bytes) .tally))
     stopped ne =
-        let stop = ap (λ (x : Progress). runOf x (recordsIn n (drop 16 bytes))) (next-open p r z ∙ step-bad (p .judge) (p .tally) r ne) ∙ run-stopped (record { rule = ruleOf (p .judge) r d; judge = p .judge; tally = p .tally }) (recordsIn n (drop 16 bytes)) ne in
-        (0, omega arith, run-open p z ∙ sym (ap (λ (x : Progress). from (x .judge) (x .tally)) stop))
+        let stop = ap (λ (x : Progress). runOf x (recordsIn n (drop 16 bytes))) (next-open p r z ∙ step-bad (p .judge) (p .tally) r ne) ∙ run-stopped (broken (ruleOf (p .judge) r d) d (p .judge) (p .tally)) (recordsIn n (drop 16 bytes)) ne in
+        (0, omega arith, h ∙ sym (ap (λ (x : Progress). from (x .judge) (x .tally)) stop))
 
 pub records-take : (m : ℕ) (bytes : List ℕ) → m * 16 ≤ length bytes → recordsIn m (take (m * 16) bytes) ≡ recordsIn m bytes
 records-take m bytes le =
@@ -140,7 +144,7 @@ zero-sound = record { span = omega arith; starts = omega arith; acks = omega ari
 reached-records : (limit : ℕ) (bytes : List ℕ) (n : ℕ) (j : Judge) (t : Tally) → Reached limit (recordingIn bytes) n (from j t) → t .records ≡ n
 reached-records limit bytes n j t h = go (h .ends)
   where
-    go : ((_≡_ {A = ℕ} 0 0) × (h .place ≡ n)) ⊎ ((_≡_ {A = ℕ} 0 0 → ⊥) × (h .place < n) × Breaks limit (recordingIn bytes) (h .place) 0) → t .records ≡ n
+    go : ((_≡_ {A = ℕ} 0 0) × (h .place ≡ n)) ⊎ ((_≡_ {A = ℕ} 0 0 → ⊥) × (h .place < n) × Breaks limit (recordingIn bytes) (h .place) noRule × (_≡_ {A = ℕ} 0 (spanAt (recordingIn bytes .lines) (h .place) 0))) → t .records ≡ n
     go (inl e) = h .before .totals .records ∙ e .1
     go (inr e) = absurd (e .0 refl)
 

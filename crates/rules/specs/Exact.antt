@@ -6,29 +6,38 @@ use mathlib.Core.List.{List, [], _∷_, _++_}
 use mathlib.Core.Path.{_≡_}
 use mathlib.Core.Logic.{_↔_}
 use lib.ListN.{length, take}
+use lib.Dec.{leb}
 use Rattle.basics.specs.Lines.{one}
 use Rattle.basics.specs.Answers.{accepted}
 use Rattle.rules.specs.declared.Judge.{Judge}
 use Rattle.rules.specs.declared.Tally.{Tally}
+use Rattle.rules.specs.declared.Broken.{Broken}
 use Rattle.rules.specs.declared.Verdict.{Verdict}
 use Rattle.rules.specs.declared.Verdict.the-variants.{Conforming, Breach, OutOfBounds, TooMany, Torn}
 use Rattle.rules.specs.declared.Outcome.{Outcome}
+use Rattle.rules.specs.Names.{ruleIn}
 use Rattle.rules.specs.State.{isOpen, zeroTally}
 use Rattle.rules.specs.Verdict.{mostRecords, freshOf, outcomeOf}
-use Rattle.rules.specs.Recording.{Recording, recordingIn, Opened}
+use Rattle.rules.specs.Recording.{Lines, Recording, recordingIn, gap, cycle, Opened}
 use Rattle.rules.specs.Thirteen.{Keeps, Breaks}
-use Rattle.rules.specs.Totals.{Totals}
+use Rattle.rules.specs.Totals.{sum, Totals}
 
--- of the first n records, record i is the first that breaks a rule, and this is the lowest that it breaks
-pub record FirstBreach (limit : ℕ) (r : Recording) (n i rule : ℕ) : Type 0 where
-  pub within : i < n
-  pub before : (m : ℕ) → m < i → Keeps limit r m
-  pub lowest : Breaks limit r i rule
+-- document 02, wish 2: "The breach also tells the span at its record", which is the cycle in which record i stands; "at record 0 or a breach of
+-- rule 1 or 2 it is the tally's", the sum of the differences before it
+abbrev pub spanAt : Lines → ℕ → ℕ → ℕ
+spanAt r i number = cond (leb number 2) (sum (gap r) i) (cycle r i)
+
+-- of the first n records, the breach's is the first that breaks a rule; it names the lowest rule that this record breaks, and tells the span
+pub record FirstBreach (limit : ℕ) (r : Recording) (n : ℕ) (b : Broken) : Type 0 where
+  pub within : b .place < n
+  pub before : (m : ℕ) → m < b .place → Keeps limit r m
+  pub lowest : Breaks limit r (b .place) (ruleIn b)
+  pub span : b .span ≡ spanAt (r .lines) (b .place) (b .rule)
 
 -- the verdict is the one that the first n records of the recording have
 abbrev pub Rightly : ℕ → Recording → ℕ → Verdict → Type 0
 Rightly limit r n Conforming = (i : ℕ) → i < n → Keeps limit r i
-Rightly limit r n (Breach b) = FirstBreach limit r n (b .place) (b .rule)
+Rightly limit r n (Breach b) = FirstBreach limit r n b
 Rightly limit r n OutOfBounds = ⊥
 Rightly limit r n TooMany = ⊥
 Rightly limit r n Torn = ⊥

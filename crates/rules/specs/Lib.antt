@@ -1,3 +1,4 @@
+pub mod Names
 pub mod Rules
 pub mod State
 pub mod Bounds
@@ -8,3 +9,4 @@ pub mod Thirteen
 pub mod Totals
 pub mod Exact
 pub mod Cases
+pub mod Kinds

@@ -42,21 +42,18 @@ rule6 start ack tm1 tm0 = implies (start && ack) (tm1 && tm0)
 abbrev pub rule7 : Bool → Bool → ℕ → Bool
 rule7 start ack words = implies (start && not ack) (ltb 0 words)
 
--- 8. "With RQST inactive one cycle before, a START needs a wave's START since the last reset (parking)."
+-- 8a. "With RQST inactive one cycle before, a START needs a wave's START since the last reset (parking)."
+-- `asked`, `twice`: RQST active one cycle before, and two cycles before
 abbrev pub rule8a : Bool → Bool → Bool → Bool
 rule8a start asked owned = implies (start && not asked) owned
 
--- "With it active then, it must be active two cycles before too,"
+-- 8b. "With it active then, it must be active two cycles before too,"
 abbrev pub rule8b : Bool → Bool → Bool → Bool
 rule8b start asked twice = implies (start && asked) twice
 
--- "and the START comes at least three cycles after the wave's last one.": `since` cycles
+-- 8c. "and the START comes at least three cycles after the wave's last one.": `since` cycles
 abbrev pub rule8c : Bool → Bool → ℕ → Bool
 rule8c start asked since = implies (start && asked) (leb 3 since)
-
--- `asked`, `twice`: RQST active one cycle before, and two cycles before
-abbrev pub rule8 : Bool → Bool → Bool → Bool → ℕ → Bool
-rule8 start asked twice owned since = rule8a start asked owned && rule8b start asked twice && rule8c start asked since
 
 -- 9. "RQST becomes inactive only in a cycle with START.": `last` is RQST in the last record, d cycles ago; a missing cycle has it inactive
 abbrev pub rule9 : Bool → ℕ → Bool → Bool → Bool

@@ -7,6 +7,8 @@ use mathlib.Core.Logic.{_⊎_}
 use Rattle.codes.specs.Start.{decodeOf}
 use Rattle.codes.specs.Parity.{parityOf}
 use Rattle.basics.specs.Numbers.{watchdog}
+use Rattle.rules.specs.declared.Rule.{Rule}
+use Rattle.rules.specs.Names.{only, kind8a, kind8b, kind8c}
 use Rattle.rules.specs.Recording.{Lines, Recording, gap, cycle, count, Opened, wordsAt, strobeOf, Asked, Began, LastStart, startWith, Owned}
 
 -- 1. "Spare bits are zero."
@@ -37,20 +39,17 @@ Rule6 r i = r i .start ≡ true → r i .ack ≡ true → (r i .tm1 ≡ true) ×
 abbrev pub Rule7 : Lines → ℕ → Type 0
 Rule7 r i = r i .start ≡ true → r i .ack ≡ false → decodeOf (r i .tm1) (r i .tm0) (r i .ad) .number ≡ 0
 
--- 8. "With RQST inactive one cycle before, a START needs a wave's START since the last reset (parking)."
+-- 8a. "With RQST inactive one cycle before, a START needs a wave's START since the last reset (parking)."
 abbrev pub Rule8a : Lines → ℕ → Type 0
 Rule8a r i = r i .start ≡ true → (Asked r i 1 → ⊥) → (m : ℕ) × Owned r i m
 
--- "With it active then, it must be active two cycles before too,"
+-- 8b. "With it active then, it must be active two cycles before too,"
 abbrev pub Rule8b : Lines → ℕ → Type 0
 Rule8b r i = r i .start ≡ true → Asked r i 1 → Asked r i 2
 
--- "and the START comes at least three cycles after the wave's last one."
+-- 8c. "and the START comes at least three cycles after the wave's last one."
 abbrev pub Rule8c : Lines → ℕ → Type 0
 Rule8c r i = r i .start ≡ true → (b m : ℕ) → Began r i b → LastStart r i b m → cycle r m + 3 ≤ cycle r i
-
-abbrev pub Rule8 : Lines → ℕ → Type 0
-Rule8 r i = Rule8a r i × Rule8b r i × Rule8c r i
 
 -- 9. "RQST becomes inactive only in a cycle with START.": where the record before has RQST (and no RESET), no cycle is missing, and this record
 -- has RQST or START
@@ -83,42 +82,44 @@ Rule13 r i = Rule13a r i × Rule13b r i
 
 -- ---- all of them
 -- the rules of a record without RESET, from 3 up
-abbrev pub fromThird : ℕ → Lines → ℕ → List (ℕ × Type 0)
+abbrev pub fromThird : ℕ → Lines → ℕ → List (Rule × Type 0)
 fromThird limit r i =
-    (3, Rule3 r i)
-    ∷ (4, Rule4 r i)
-    ∷ (5, Rule5 r i)
-    ∷ (6, Rule6 r i)
-    ∷ (7, Rule7 r i)
-    ∷ (8, Rule8 r i)
-    ∷ (9, Rule9 r i)
-    ∷ (10, Rule10 r i)
-    ∷ (11, Rule11 limit r i)
-    ∷ (12, Rule12 r i)
-    ∷ (13, Rule13 r i)
+    (only 3, Rule3 r i)
+    ∷ (only 4, Rule4 r i)
+    ∷ (only 5, Rule5 r i)
+    ∷ (only 6, Rule6 r i)
+    ∷ (only 7, Rule7 r i)
+    ∷ (kind8a, Rule8a r i)
+    ∷ (kind8b, Rule8b r i)
+    ∷ (kind8c, Rule8c r i)
+    ∷ (only 9, Rule9 r i)
+    ∷ (only 10, Rule10 r i)
+    ∷ (only 11, Rule11 limit r i)
+    ∷ (only 12, Rule12 r i)
+    ∷ (only 13, Rule13 r i)
     ∷ []
 
 -- "If RESET is active, .. no further rule applies."
-abbrev pub rules : ℕ → Recording → ℕ → List (ℕ × Type 0)
+abbrev pub rules : ℕ → Recording → ℕ → List (Rule × Type 0)
 rules limit r i =
-    (1, Rule1 (r .spare) i)
-    ∷ (2, Rule2 (r .lines) i)
+    (only 1, Rule1 (r .spare) i)
+    ∷ (only 2, Rule2 (r .lines) i)
     ∷ cond (r .lines i .reset) [] (fromThird limit (r .lines) i)
 
 -- every rule of the list holds
-abbrev pub AllKept : List (ℕ × Type 0) → Type 0
+abbrev pub AllKept : List (Rule × Type 0) → Type 0
 AllKept [] = Unit {0}
 AllKept (rule ∷ rest) = rule .1 × AllKept rest
 
--- `number` is the first rule of the list that does not hold
-abbrev pub FirstOf : ℕ → List (ℕ × Type 0) → Type 0
-FirstOf number [] = ⊥
-FirstOf number (rule ∷ rest) = ((rule .1 → ⊥) × (number ≡ rule .0)) ⊎ (rule .1 × FirstOf number rest)
+-- `name` is the first rule of the list that does not hold
+abbrev pub FirstOf : Rule → List (Rule × Type 0) → Type 0
+FirstOf name [] = ⊥
+FirstOf name (rule ∷ rest) = ((rule .1 → ⊥) × (name ≡ rule .0)) ⊎ (rule .1 × FirstOf name rest)
 
 -- record i keeps every rule that applies to it
 abbrev pub Keeps : ℕ → Recording → ℕ → Type 0
 Keeps limit r i = AllKept (rules limit r i)
 
 -- the lowest rule that record i breaks is this one
-abbrev pub Breaks : ℕ → Recording → ℕ → ℕ → Type 0
+abbrev pub Breaks : ℕ → Recording → ℕ → Rule → Type 0
 Breaks limit r i rule = FirstOf rule (rules limit r i)

@@ -11,6 +11,7 @@ use Rattle.rules.specs.declared.Judge.{Judge}
 use Rattle.rules.specs.declared.Tally.{Tally}
 use Rattle.rules.specs.declared.Transfer.the-variants.{Idle}
 use Rattle.rules.specs.declared.Progress.{Progress}
+use Rattle.rules.specs.declared.Broken.{Broken}
 use Rattle.rules.specs.declared.Verdict.{Verdict}
 use Rattle.rules.specs.declared.Verdict.the-variants.{Conforming, Breach, OutOfBounds, TooMany, Torn}
 use Rattle.rules.specs.declared.Judged.{Judged}
@@ -58,9 +59,12 @@ refusalOf size j t =
 unfoldable pub refusedBy : ℕ → Verdict
 refusedBy number = cond (eqb number 5) OutOfBounds (cond (eqb number 8) TooMany Torn)
 
--- "A breach names its rule and the tally's records"
+-- "A breach names its rule and the tally's records", its kind and the span
+abbrev pub brokenBy : Progress → Broken
+brokenBy p = record { rule = p .rule; kind = p .kind; place = p .tally .records; span = p .span }
+
 unfoldable pub verdictOf : Progress → Verdict
-verdictOf p = cond (eqb (p .rule) 0) Conforming (Breach (record { rule = p .rule; place = p .tally .records }))
+verdictOf p = cond (eqb (p .rule) 0) Conforming (Breach (brokenBy p))
 
 -- what a recording's records leave: the verdict, the state and the tally
 abbrev pub outcomeIn : Progress → Outcome
@@ -78,18 +82,23 @@ abbrev pub judgedOf : Outcome → Judged
 judgedOf o = record { verdict = o .verdict; judge = o .judge }
 
 -- ---- document 01's number and values for each verdict
--- whether a rule is broken, which, and at which record; all zeros where none is and on a refusal
+-- whether a rule is broken, which, of which kind, at which record, and the span there; all zeros where none is and on a refusal
 pub record Finding : Type 0 where
   pub breach : Bool
   pub rule : ℕ
+  pub kind : ℕ
   pub place : ℕ
+  pub span : ℕ
 
 abbrev pub nothing : Finding
-nothing = record { breach = false; rule = 0; place = 0 }
+nothing = record { breach = false; rule = 0; kind = 0; place = 0; span = 0 }
+
+abbrev pub findingOf : Broken → Finding
+findingOf b = record { breach = true; rule = b .rule; kind = b .kind; place = b .place; span = b .span }
 
 abbrev pub verdictAnswer : Verdict → Answer Finding
 verdictAnswer Conforming = accepted nothing
-verdictAnswer (Breach b) = accepted (record { breach = true; rule = b .rule; place = b .place })
+verdictAnswer (Breach b) = accepted (findingOf b)
 verdictAnswer OutOfBounds = refused 5 nothing
 verdictAnswer TooMany = refused 8 nothing
 verdictAnswer Torn = refused 1 nothing

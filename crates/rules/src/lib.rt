@@ -43,17 +43,29 @@ pub struct Tally {
     pub aborted: u32,
 }
 
-// How far a recording has been judged: the rule that a record broke (0: none so far), the state and the tally before that record.
+// A rule's name: its number in document 01 and, of rule 8, its kind (document 02, wish 2): 1 for 8a, 2 for 8b, 3 for 8c. The other rules
+// are of kind 0; both are 0 where no rule is broken.
+pub struct Rule {
+    pub number: u8,
+    pub kind: u8,
+}
+
+// How far a recording has been judged: the rule that a record broke, by number and kind (0: none so far), the span at that record, and the
+// state and the tally before it.
 pub struct Progress {
     pub rule: u8,
+    pub kind: u8,
+    pub span: u64,
     pub judge: Judge,
     pub tally: Tally,
 }
 
-// A broken rule, and the place of its record: the tally's records before it.
+// A broken rule, by number and kind; the place of its record, which is the tally's records before it; and the span there.
 pub struct Broken {
     pub rule: u8,
+    pub kind: u8,
     pub place: u32,
+    pub span: u64,
 }
 
 // What a call of the judge says. The last three are refusals 5, 8 and 1.

@@ -82,6 +82,8 @@ fn put_verdict(out: &mut [u8; 64], verdict: Verdict) {
         Verdict::Breach(broken) => {
             out[1] = broken.rule;
             numbers::put_word(out, 2, broken.place);
+            out[31] = broken.kind;
+            numbers::put_long(out, 32, broken.span);
         }
         Verdict::OutOfBounds => {
             out[0] = 5;
