@@ -57,6 +57,16 @@ done
 "$out/makerec" sound 4000 $((seed + 1)) >"$inputs/spurjudge.1" || exit 2
 { "$out/makerec" wild 3000 $((seed + 2)) && printf torn; } >"$inputs/spurjudge.2" || exit 2
 "$out/makerec" breach 4000 3 >"$inputs/spurjudge.3" || exit 2
+# Each kind of rule 8; and 8a behind three differences of 2^31, where the span is over 2^32.
+"$out/makerec" damage 8a $((seed + 4)) >"$inputs/spurjudge.4" || exit 2
+"$out/makerec" damage 8b $((seed + 5)) >"$inputs/spurjudge.5" || exit 2
+"$out/makerec" damage 8c $((seed + 6)) >"$inputs/spurjudge.6" || exit 2
+record() { # stamp and byte 4, as printf has them
+    printf "$1"'\0\0\0\0\0\0\0\0\0\0\0'
+}
+{
+    record '\0\0\0\0\0' && record '\200\0\0\0\0' && record '\0\0\0\0\0' && record '\200\0\0\0\002'
+} >"$inputs/spurjudge.7" || exit 2
 
 # Boot reports, the program's words beside the recording: marks, before each up to sixty that are
 # nearly marks, and right behind the last one's ACK a breach; marks where reads end, half of them
@@ -153,7 +163,7 @@ for program in spurcalls spurjudge spurphases; do
     }
 done
 calls=$(cat "$inputs"/spurcalls.* | wc -c)
-echo "without a bug: $((calls / 64)) calls, three recordings and $reports boot reports," \
+echo "without a bug: $((calls / 64)) calls, seven recordings and $reports boot reports," \
     "all as the model answers"
 while IFS= read -r file; do
     case $file in '#'* | '') continue ;; esac
