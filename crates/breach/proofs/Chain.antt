@@ -1,7 +1,7 @@
 -- The lowest broken rule, found test by test from the last one up. Assumes nothing.
-use mathlib.Core.Bool.{Bool, true, false, cond}
+use mathlib.Core.Bool.{Bool, cond}
 use mathlib.Core.List.{List, [], _∷_}
-use mathlib.Core.Path.{_≡_, refl, sym, subst, _∙_, ap}
+use mathlib.Core.Path.{_≡_, refl, _∙_, ap}
 use Rattle.rules.specs.declared.Rule.{Rule}
 use Rattle.rules.specs.Names.{noRule}
 use Rattle.rules.specs.Run.{lowest}

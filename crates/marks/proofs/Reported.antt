@@ -22,8 +22,9 @@ use Rattle.rules.specs.State.{isOpen, freshJudge, zeroTally}
 use Rattle.rules.specs.Thirteen.{rules, Keeps, Breaks}
 use Rattle.rules.specs.Verdict.{mostRecords, brokenBy}
 use Rattle.rules.specs.Exact.{spanAt}
+use Rattle.rules.specs.Names.{ruleIn}
 use Rattle.rules.proofs.Laws.{fresh-sound, run-sound, run-open}
-use Rattle.rules.proofs.Reach.{Before, cycle-sum, named, Reached, reached}
+use Rattle.rules.proofs.Reach.{Before, cycle-sum, Ended, Reached, reached}
 use Rattle.rules.proofs.Exactly.{kept-not}
 use Rattle.rules.proofs.Places.{below}
 use Rattle.rules.proofs.Told.{zero-sound}
@@ -163,7 +164,7 @@ module _ (limit : ℕ) (low : 1 ≤ limit) (high : limit ≤ 16) (m : Marks) (la
       go : Reached limit (recordingIn bytes) i (judged i) → Before limit (recordingIn bytes) i (judged i .judge) (judged i .tally)
       go h = ends (h .ends)
         where
-          ends : ((judged i .rule ≡ 0) × (h .place ≡ i)) ⊎ ((judged i .rule ≡ 0 → ⊥) × (h .place < i) × Breaks limit (recordingIn bytes) (h .place) (named (judged i)) × (judged i .span ≡ spanAt lines (h .place) (judged i .rule))) → Before limit (recordingIn bytes) i (judged i .judge) (judged i .tally)
+          ends : Ended limit (recordingIn bytes) i (judged i) (h .place) → Before limit (recordingIn bytes) i (judged i .judge) (judged i .tally)
           ends (inl x) = subst (λ k. Before limit (recordingIn bytes) k (judged i .judge) (judged i .tally)) (x .1) (h .before)
           ends (inr x) = absurd (x .0 e)
 
@@ -278,7 +279,7 @@ module _ (limit : ℕ) (low : 1 ≤ limit) (high : limit ≤ 16) (m : Marks) (la
       unfolding underWay judgedIn
       breach ne = go (reached limit bytes (suc i) low high)
         where
-          over : judged (suc i) .tally .records ≡ i → Breaks limit (recordingIn bytes) i (named (judged (suc i))) → judged (suc i) .span ≡ spanAt lines i (judged (suc i) .rule) → Over (nextSeen p b)
+          over : judged (suc i) .tally .records ≡ i → Breaks limit (recordingIn bytes) i (ruleIn (brokenAt (suc i))) → judged (suc i) .span ≡ spanAt lines i (judged (suc i) .rule) → Over (nextSeen p b)
           over records breaks span =
               subst Over (sym (seen-ended (stateWith (Stopped (brokenAt (suc i))) (judged (suc i) .judge) (judged (suc i) .tally) []) (gone ∙ after-breach false (judged (suc i)) [] ne) refl)) (
                 refl,
@@ -289,12 +290,12 @@ module _ (limit : ℕ) (low : 1 ≤ limit) (high : limit ≤ 16) (m : Marks) (la
           go : Reached limit (recordingIn bytes) (suc i) (judged (suc i)) → Over (nextSeen p b)
           go x = ends (x .ends)
             where
-              ends : ((judged (suc i) .rule ≡ 0) × (x .place ≡ suc i)) ⊎ ((judged (suc i) .rule ≡ 0 → ⊥) × (x .place < suc i) × Breaks limit (recordingIn bytes) (x .place) (named (judged (suc i))) × (judged (suc i) .span ≡ spanAt lines (x .place) (judged (suc i) .rule))) → Over (nextSeen p b)
+              ends : Ended limit (recordingIn bytes) (suc i) (judged (suc i)) (x .place) → Over (nextSeen p b)
               ends (inl y) = absurd (ne (y .0))
               ends (inr y) =
                   below (x .place) i (y .1)
-                  (λ less. absurd (kept-not (rules limit (recordingIn bytes) (x .place)) (named (judged (suc i))) (now .good (x .place) less) (y .2)))
-                  (λ e. over (x .before .totals .records ∙ e) (subst (λ k. Breaks limit (recordingIn bytes) k (named (judged (suc i)))) e (y .2)) (subst (λ k. judged (suc i) .span ≡ spanAt lines k (judged (suc i) .rule)) e (y .3)))
+                  (λ less. absurd (kept-not (rules limit (recordingIn bytes) (x .place)) (ruleIn (brokenAt (suc i))) (now .good (x .place) less) (y .2)))
+                  (λ e. over (x .before .totals .records ∙ e) (subst (λ k. Breaks limit (recordingIn bytes) k (ruleIn (brokenAt (suc i)))) e (y .2)) (subst (λ k. judged (suc i) .span ≡ spanAt lines k (judged (suc i) .rule)) e (y .3)))
 
       -- a record that keeps the rules is seen by the search
       module _ (e : judged (suc i) .rule ≡ 0) where

@@ -2,7 +2,6 @@
 -- last mark ..; a breach after that point isn't reported, and the records read are given. Refusals: .. 10, a mark absent at a conforming end, with its
 -- place, last." Which report is right of an input, said of its recording.
 use Prim.Native.Nat.{ℕ, zero, suc, _-_, _%_, _≤_, _<_}
-use mathlib.Core.Bool.{true}
 use mathlib.Core.List.{List}
 use mathlib.Core.Path.{_≡_}
 use lib.ListN.{length, getD, set, replicate}

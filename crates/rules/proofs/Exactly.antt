@@ -4,7 +4,7 @@ use Prim.Native.Nat.{ℕ, zero, suc, _+_, _≤_, _<_}
 use mathlib.Core.Bool.{true}
 use mathlib.Core.List.{List, [], _∷_}
 use mathlib.Core.Path.{_≡_, refl, sym, ap, subst, _∙_}
-use mathlib.Core.Logic.{_↔_, _⊎_, inl, inr}
+use mathlib.Core.Logic.{_↔_, inl, inr}
 use native.Mathlib.Omega.{arith}
 use borrow.Author.Tests.{eq-eqb, ne-eqb}
 use Rattle.basics.proofs.Bools.{cond-true, cond-false}
@@ -27,7 +27,7 @@ use Rattle.rules.proofs.Places.{same-place}
 use Rattle.rules.proofs.Hold.{open-exact}
 use Rattle.rules.proofs.Ride.{asked-began}
 use Rattle.rules.proofs.Step.{JudgeIs, forward-to}
-use Rattle.rules.proofs.Reach.{named, Reached, reached}
+use Rattle.rules.proofs.Reach.{Ended, Reached, reached}
 
 -- ---- the verdict is one
 pub kept-not : (ps : List (Rule × Type 0)) (n : Rule) → AllKept ps → FirstOf n ps → ⊥
@@ -122,7 +122,7 @@ reached-exact limit r n p h = by-end (h .ends)
           balance = h .before .balance;
         }
 
-    by-end : ((p .rule ≡ 0) × (h .place ≡ n)) ⊎ ((p .rule ≡ 0 → ⊥) × (h .place < n) × Breaks limit r (h .place) (named p) × (p .span ≡ spanAt (r .lines) (h .place) (p .rule))) → Exact limit r n (outcomeIn p)
+    by-end : Ended limit r n p (h .place) → Exact limit r n (outcomeIn p)
     by-end (inl e) =
         subst (λ (v : Verdict). Exact limit r n (record { verdict = v; judge = p .judge; tally = p .tally })) (sym (cond-true _ _ (eq-eqb (p .rule) 0 (e .0))))
         (exact Conforming (λ i lt. h .before .good i (let z = e .1 in omega arith)) (sym (e .1)))
@@ -147,6 +147,6 @@ wave-there limit bytes i low high keeps r2 = go (reached limit bytes i low high)
     go : {p : Progress} → Reached limit r i p → Asked (r .lines) i 1 → (b : ℕ) × Began (r .lines) i b
     go {p} h = by-end (h .ends)
       where
-        by-end : ((p .rule ≡ 0) × (h .place ≡ i)) ⊎ ((p .rule ≡ 0 → ⊥) × (h .place < i) × Breaks limit r (h .place) (named p) × (p .span ≡ spanAt (r .lines) (h .place) (p .rule))) → Asked (r .lines) i 1 → (b : ℕ) × Began (r .lines) i b
+        by-end : Ended limit r i p (h .place) → Asked (r .lines) i 1 → (b : ℕ) × Began (r .lines) i b
         by-end (inl e) = at (p .judge) (subst (λ k. JudgeIs limit (r .lines) k (p .judge)) (e .1) (h .before .judge))
-        by-end (inr e) = absurd (kept-not (rules limit r (h .place)) (named p) (keeps (h .place) (e .1)) (e .2))
+        by-end (inr e) = absurd (kept-not (rules limit r (h .place)) (ruleIn (brokenBy p)) (keeps (h .place) (e .1)) (e .2))

@@ -1,11 +1,10 @@
 -- "No record meets 8b and 8c at once": RQST inactive two cycles before a START means that the wave began one cycle before it, and then it has had no
 -- START. Of every recording, with no rule kept before. Assumes nothing.
-use Prim.Native.Nat.{ℕ, zero, suc, _+_, _/_, _<_}
+use Prim.Native.Nat.{ℕ, zero, suc, _/_}
 use mathlib.Core.Bool.{Bool, true, false, not, cond, _&&_}
 use mathlib.Core.List.{List, [], _∷_}
 use mathlib.Core.Path.{_≡_, refl, sym, ap, subst}
-use mathlib.Core.Logic.{_⊎_, inl, inr}
-use native.Mathlib.Omega.{arith}
+use mathlib.Core.Logic.{inl, inr}
 use lib.ListN.{length}
 use lib.Dec.{eqb}
 use borrow.Author.Tests.{eqb-false, not-true}
@@ -22,45 +21,15 @@ use Rattle.rules.specs.State.{diffOf, judgeOf}
 use Rattle.rules.specs.Bounds.{judgeBounds, tallyBounds}
 use Rattle.rules.specs.Run.{ruleOf, stepOf, nextOf}
 use Rattle.rules.specs.Verdict.{refusalOf, refusedBy, verdictOf, outcomeOf}
-use Rattle.rules.specs.Recording.{Lines, Recording, recordingIn, gap, cycle, Asked, Began}
+use Rattle.rules.specs.Recording.{Lines, Recording, recordingIn}
 use Rattle.rules.specs.Thirteen.{Rule8a, Rule8b, Rule8c, fromThird, rules, FirstOf, Breaks}
 use Rattle.rules.specs.Exact.{After}
 use Rattle.rules.specs.Kinds.{OneKind, parking, brief, soon, BothFail, Kinds}
-use Rattle.rules.proofs.Ride.{just-begun}
+use Rattle.rules.proofs.Ride.{began-once, began-twice, just-begun}
 use Rattle.rules.proofs.Reach.{Reached, reached}
 use Rattle.rules.proofs.Told.{past-is}
 
 -- ---- of a recording
--- in a wave RQST is active one cycle before record i,
-began-once : (r : Lines) (i b : ℕ) → Began r i b → Asked r i 1
-began-once r zero b h = absurd (let z = h .earlier in omega arith)
-began-once r (suc k) b h =
-    let lt = h .earlier in (
-      k,
-      record {
-        earlier = omega arith;
-        active = h .active k (omega arith) (omega arith);
-        unbroken = λ m le ml. h .unbroken m (omega arith) ml;
-        ago = ap (λ g. cycle r k + g) (sym (h .each (suc k) lt (omega arith)));
-      },
-    )
-
--- and two cycles before it where the wave has had a START, which stands behind the record in which the wave began
-began-twice : (r : Lines) (i b m : ℕ) → Began r i b → b < m → m < i → Asked r i 2
-began-twice r zero b m h bm mi = absurd (omega arith)
-began-twice r (suc zero) b m h bm mi = absurd (omega arith)
-began-twice r (suc (suc k)) b m h bm mi =
-    let near = h .each (suc (suc k)) (omega arith) (omega arith) in
-    let far = h .each (suc k) (omega arith) (omega arith) in (
-      k,
-      record {
-        earlier = omega arith;
-        active = h .active k (omega arith) (omega arith);
-        unbroken = λ n le ni. h .unbroken n (omega arith) ni;
-        ago = (let z : cycle r k + 2 ≡ cycle r k + gap r (suc k) + gap r (suc (suc k)) = omega arith in z);
-      },
-    )
-
 -- a START that breaks 8b is the wave's first,
 brief-first : (r : Lines) (i : ℕ) → (Rule8b r i → ⊥) → Rule8c r i
 brief-first r i n s b m u l = absurd (n (λ _ _. began-twice r i b m u (l .turn .after) (l .turn .earlier)))
@@ -121,13 +90,13 @@ led-to limit past j t a =
     just-begun (r .lines) (at .place) (j .wave) (at .before .judge .wave)
 
 -- the two, by computing
-begun : BothFail 0
+at-last : BothFail 0
 unfolding bit active activeBelow packed fieldsIn recordIn spareIn parityOf blockOf unitOf wordsOf diffOf judgeOf judgeBounds tallyBounds ruleOf stepOf nextOf refusalOf refusedBy verdictOf outcomeOf
-begun = record { bounded = refl; brief = refl; soon = refl; told = refl }
+at-last = record { bounded = refl; brief = refl; soon = refl; told = refl }
 
-before : BothFail 1
+one-before : BothFail 1
 unfolding bit active activeBelow packed fieldsIn recordIn spareIn parityOf blockOf unitOf wordsOf diffOf judgeOf judgeBounds tallyBounds ruleOf stepOf nextOf refusalOf refusedBy verdictOf outcomeOf
-before = record { bounded = refl; brief = refl; soon = refl; told = refl }
+one-before = record { bounded = refl; brief = refl; soon = refl; told = refl }
 
 pub kinds : Kinds
-kinds = record { apart = λ r i b c. c (brief-first r i b); one = one-kind; led = led-to; begun = begun; before = before }
+kinds = record { apart = λ r i b c. c (brief-first r i b); one = one-kind; led = led-to; atLast = at-last; oneBefore = one-before }

@@ -17,12 +17,14 @@ use Rattle.rules.specs.declared.Rule.{Rule}
 use Rattle.rules.specs.declared.Progress.{Progress}
 use Rattle.rules.specs.declared.Transfer.{Transfer}
 use Rattle.rules.specs.declared.Transfer.the-variants.{Idle, Open}
+use Rattle.rules.specs.Names.{ruleIn}
 use Rattle.rules.specs.Rules.{rule4, rule5}
 use Rattle.rules.specs.State.{isOpen, transferOf, freshJudge, diffOf, judgeOf, zeroTally, tallyOf}
 use Rattle.rules.specs.Run.{Taken, recordsIn, ruleOf, spanOf, from, broken, stepOf, runOf}
 use Rattle.rules.specs.Recording.{Lines, Recording, recordingIn, sixteen, gap, cycle}
 use Rattle.rules.specs.Thirteen.{rules, Keeps, Breaks}
 use Rattle.rules.specs.Totals.{sum, Number, none, more, other, Aborts, Totals}
+use Rattle.rules.specs.Verdict.{brokenBy}
 use Rattle.rules.specs.Exact.{spanAt}
 use Rattle.rules.proofs.Laws.{later-holds, after, step-good, step-bad, next-open, run-stopped, arb-le}
 use Rattle.rules.proofs.Places.{below, clash, and-pair}
@@ -147,15 +149,17 @@ abbrev pub Listed : Recording → ℕ → List Taken → Type 0
 Listed r i [] = Unit {0}
 Listed r i (t ∷ ts) = (takenAt r i ≡ t) × Listed r (suc i) ts
 
--- the rule that a progress names
-abbrev pub named : Progress → Rule
-named p = record { number = p .rule; kind = p .kind }
+-- how the judging of n records ends at this place: with all of them, or with the first record that breaks a rule and what is told of it
+abbrev pub Ended : ℕ → Recording → ℕ → Progress → ℕ → Type 0
+Ended limit r n p place =
+    ((p .rule ≡ 0) × (place ≡ n))
+    ⊎ ((p .rule ≡ 0 → ⊥) × (place < n) × Breaks limit r place (ruleIn (brokenBy p)) × (p .span ≡ spanAt (r .lines) place (p .rule)))
 
 -- where the judge has come of n records: through all of them, or to the first that breaks a rule
 pub record Reached (limit : ℕ) (r : Recording) (n : ℕ) (p : Progress) : Type 0 where
   pub place : ℕ
   pub before : Before limit r place (p .judge) (p .tally)
-  pub ends : ((p .rule ≡ 0) × (place ≡ n)) ⊎ ((p .rule ≡ 0 → ⊥) × (place < n) × Breaks limit r place (named p) × (p .span ≡ spanAt (r .lines) place (p .rule)))
+  pub ends : Ended limit r n p place
 
 reached-from : (limit : ℕ) (r : Recording) (n i : ℕ) (p : Progress) (ts : List Taken) → ((m : ℕ) → r .lines m .arb ≤ 15) → Listed r i ts → n ≡ i + length ts → p .rule ≡ 0 → Before limit r i (p .judge) (p .tally) → Reached limit r n (runOf p ts)
 reached-from limit r n i p [] la at en z h = record { place = i; before = h; ends = inl (z, omega arith) }

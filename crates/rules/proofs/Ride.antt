@@ -58,10 +58,14 @@ asks-last r n c e g =
       },
     )
 
+asked-says : (r : Lines) (i : ℕ) → asked r i ≡ true → Asked r i 1
+asked-says r zero e = absurd (false≢true e)
+asked-says r (suc n) e = let p = and-both (eqb (gap r (suc n)) 1) (last r (suc n)) e in asks-last r n 1 (p .1) (eqb-true (gap r (suc n)) 1 (p .0))
+
 asked-exact : (r : Lines) (i : ℕ) → Forward r i → (asked r i ≡ true) ↔ Asked r i 1
-asked-exact r zero f = (λ e. absurd (false≢true e), λ a. absurd (let z = a .1 .earlier in omega arith))
+asked-exact r zero f = (asked-says r zero, λ a. absurd (let z = a .1 .earlier in omega arith))
 asked-exact r (suc n) f = (
-  λ e. let p = and-both (eqb (gap r (suc n)) 1) (last r (suc n)) e in asks-last r n 1 (p .1) (eqb-true (gap r (suc n)) 1 (p .0)),
+  asked-says r (suc n),
   λ a. let k = a .0 in let o = a .1 in
       let g = f (suc n) (omega arith) (omega arith) in
       let ago = o .ago in
@@ -72,24 +76,29 @@ asked-exact r (suc n) f = (
       and-pair (eq-eqb (gap r (suc n)) 1 (omega arith)) (and-pair (subst (λ m. r m .rqst ≡ true) e (o .active)) (not-off (o .unbroken n (omega arith) (omega arith))))),
 )
 
+twice-says : (r : Lines) (i : ℕ) → twice r i ≡ true → Asked r i 2
+twice-says r zero e = absurd (false≢true e)
+twice-says r (suc n) e =
+    or-split (eqb (gap r (suc n)) 1 && prior r (suc n)) (eqb (gap r (suc n)) 2 && last r (suc n)) e
+    (λ x. let p = and-both (eqb (gap r (suc n)) 1) (prior r (suc n)) x in
+    let q = and-both (not (r n .reset)) (asked r n) (p .1) in
+    let o = asked-says r n (q .1) in
+    let k = o .0 in
+    let g = eqb-true (gap r (suc n)) 1 (p .0) in (
+      k,
+      record {
+        earlier = (let z = o .1 .earlier in omega arith);
+        active = o .1 .active;
+        unbroken = more (λ m. r m .reset ≡ false) k n (o .1 .unbroken) (not-true (r n .reset) (q .0));
+        ago = (let z = o .1 .ago in omega arith);
+      },
+    ))
+    (λ x. let p = and-both (eqb (gap r (suc n)) 2) (last r (suc n)) x in asks-last r n 2 (p .1) (eqb-true (gap r (suc n)) 2 (p .0)))
+
 twice-exact : (r : Lines) (i : ℕ) → Forward r i → (twice r i ≡ true) ↔ Asked r i 2
-twice-exact r zero f = (λ e. absurd (false≢true e), λ a. absurd (let z = a .1 .earlier in omega arith))
+twice-exact r zero f = (twice-says r zero, λ a. absurd (let z = a .1 .earlier in omega arith))
 twice-exact r (suc n) f = (
-  λ e. or-split (eqb (gap r (suc n)) 1 && prior r (suc n)) (eqb (gap r (suc n)) 2 && last r (suc n)) e
-      (λ x. let p = and-both (eqb (gap r (suc n)) 1) (prior r (suc n)) x in
-      let q = and-both (not (r n .reset)) (asked r n) (p .1) in
-      let o = asked-exact r n (λ m a b. f m a (omega arith)) .0 (q .1) in
-      let k = o .0 in
-      let g = eqb-true (gap r (suc n)) 1 (p .0) in (
-        k,
-        record {
-          earlier = (let z = o .1 .earlier in omega arith);
-          active = o .1 .active;
-          unbroken = more (λ m. r m .reset ≡ false) k n (o .1 .unbroken) (not-true (r n .reset) (q .0));
-          ago = (let z = o .1 .ago in omega arith);
-        },
-      ))
-      (λ x. let p = and-both (eqb (gap r (suc n)) 2) (last r (suc n)) x in asks-last r n 2 (p .1) (eqb-true (gap r (suc n)) 2 (p .0))),
+  twice-says r (suc n),
   λ a. let k = a .0 in let o = a .1 in
       let g = f (suc n) (omega arith) (omega arith) in
       let ago = o .ago in
@@ -450,13 +459,23 @@ rule11-exact limit r i w low f h = rw (asked-is r i w h) (λ r10. (
         omega arith
 
 -- ---- a wave that has just begun has had no START
-prior-on : (r : Lines) (i b m : ℕ) → Lasting r i b → b < m → m < i → prior r i ≡ true
-prior-on r zero b m h bm mi = absurd (omega arith)
-prior-on r (suc zero) b m h bm mi = absurd (omega arith)
-prior-on r (suc (suc k)) b m h bm mi =
-    and-pair (not-off (h .unbroken (suc k) (omega arith) (omega arith)))
-    (and-pair (eq-eqb (gap r (suc k)) 1 (h .each (suc k) (omega arith) (omega arith)))
-    (and-pair (h .active k (omega arith) (omega arith)) (not-off (h .unbroken k (omega arith) (omega arith)))))
+-- RQST active from record b on, with no cycle missing and no RESET, and a record m between b and i: active in the last two records before i
+prior-on : (r : Lines) (i b m : ℕ) → ((k : ℕ) → b ≤ k → k < i → r k .rqst ≡ true) → NoReset r b i → ((k : ℕ) → b < k → k < i → gap r k ≡ 1) → b < m → m < i → prior r i ≡ true
+prior-on r zero b m active unbroken each bm mi = absurd (omega arith)
+prior-on r (suc zero) b m active unbroken each bm mi = absurd (omega arith)
+prior-on r (suc (suc k)) b m active unbroken each bm mi =
+    and-pair (not-off (unbroken (suc k) (omega arith) (omega arith)))
+    (and-pair (eq-eqb (gap r (suc k)) 1 (each (suc k) (omega arith) (omega arith)))
+    (and-pair (active k (omega arith) (omega arith)) (not-off (unbroken k (omega arith) (omega arith)))))
+
+-- so in a wave RQST is active one cycle before record i, and two cycles before it where the wave has had a START
+pub began-once : (r : Lines) (i b : ℕ) → Began r i b → Asked r i 1
+began-once r i b h = asked-says r i (began-asked r i b h)
+
+pub began-twice : (r : Lines) (i b m : ℕ) → Began r i b → b < m → m < i → Asked r i 2
+began-twice r i b m h bm mi =
+    twice-says r i (or-left (eqb (gap r i) 2 && last r i)
+    (and-pair (eq-eqb (gap r i) 1 (h .each i (omega arith) (omega arith))) (prior-on r i b m (h .active) (h .unbroken) (λ k bk ki. h .each k bk (omega arith)) bm mi)))
 
 pub just-begun : (r : Lines) (i : ℕ) (w : Wave) → WaveIs r i w → w .prior ≡ false → w .since ≡ 3
 just-begun r i w h e = by-ride (h .ride)
@@ -467,7 +486,7 @@ just-begun r i w h e = by-ride (h .ride)
       where
         by-start : Latest r i b (w .since) (w .arb) → w .since ≡ 3
         by-start (unstarted _ three _) = three
-        by-start (started m x l _ _ _) = clash (prior-on r i b m (v .lasts) (l .turn .after) (l .turn .earlier)) (sym (h .prior) ∙ e)
+        by-start (started m x l _ _ _) = clash (prior-on r i b m (v .lasts .active) (v .lasts .unbroken) (v .lasts .each) (l .turn .after) (l .turn .earlier)) (sym (h .prior) ∙ e)
 
 -- where RQST is active one cycle before, a wave lasts until then: rules 8c, 10 and 11 pass over no START of a wave
 pub asked-began : (r : Lines) (i : ℕ) (w : Wave) → Forward r i → WaveIs r i w → Asked r i 1 → (b : ℕ) × Began r i b

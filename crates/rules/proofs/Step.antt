@@ -13,12 +13,12 @@ use Rattle.codes.specs.Parity.{parityOf}
 use Rattle.rules.specs.declared.Rule.{Rule}
 use Rattle.rules.specs.declared.Judge.{Judge}
 use Rattle.rules.specs.Names.{only, kind8a, kind8b, kind8c}
-use Rattle.rules.specs.Rules.{rule1, rule2, rule3, rule6, rule10, rule11}
+use Rattle.rules.specs.Rules.{rule2, rule3, rule6, rule10, rule11}
 use Rattle.rules.specs.State.{askedOf, freshJudge, diffOf, resetOf, movedOf, judgeOf}
 use Rattle.rules.specs.Bounds.{SoundJudge}
 use Rattle.rules.specs.Run.{Taken, lowest, laterRules, rulesOf, ruleOf}
 use Rattle.rules.specs.Recording.{Lines, Recording, gap}
-use Rattle.rules.specs.Thirteen.{Rule1, Rule2, Rule6, Rule11, fromThird, rules, AllKept, FirstOf}
+use Rattle.rules.specs.Thirteen.{Rule2, Rule6, Rule11, fromThird, rules, AllKept, FirstOf}
 use Rattle.rules.proofs.Laws.{AllHold, later-holds, seventh, ninth, tenth, stamp-holds, fresh-sound, reset-sound, moved-sound}
 use Rattle.rules.proofs.Places.{below, itself, and-iff, leb-iff, implies-iff, both-imply-iff}
 use Rattle.rules.proofs.Hold.{Held, held-reset, held-next, rule4-exact, rule5-exact, rule7-exact, rule12-exact, rule13-exact}

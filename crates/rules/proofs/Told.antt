@@ -1,9 +1,9 @@
 -- What a caller of the judge is told: the verdict and the totals of the whole recording, in whatever parts it was given. Assumes nothing.
-use Prim.Native.Nat.{ℕ, zero, suc, _+_, _*_, _/_, _%_, _≤_, _<_}
+use Prim.Native.Nat.{ℕ, zero, suc, _+_, _*_, _/_, _%_, _≤_}
 use mathlib.Core.Bool.{true, false, false≢true}
 use mathlib.Core.List.{List, [], _++_, append-nil}
 use mathlib.Core.Path.{_≡_, refl, sym, ap, subst, _∙_}
-use mathlib.Core.Logic.{_⊎_, inl, inr}
+use mathlib.Core.Logic.{inl, inr}
 use native.Mathlib.Omega.{arith}
 use native.Mathlib.Nat.{add-zero}
 use lib.ListN.{length, take, drop, length-append, take-append-drop}
@@ -18,18 +18,16 @@ use Rattle.rules.specs.declared.Progress.{Progress}
 use Rattle.rules.specs.declared.Verdict.{Verdict}
 use Rattle.rules.specs.declared.Verdict.the-variants.{Conforming}
 use Rattle.rules.specs.declared.Outcome.{Outcome}
-use Rattle.rules.specs.Names.{noRule}
 use Rattle.rules.specs.State.{freshJudge, zeroTally, diffOf}
 use Rattle.basics.specs.Numbers.{lawfulLimit}
 use Rattle.rules.specs.Bounds.{SoundJudge, SoundTally}
 use Rattle.rules.specs.Run.{Taken, takenIn, recordsIn, ruleOf, from, broken, nextOf, runOf}
 use Rattle.rules.specs.Verdict.{mostRecords, freshOf, refusalOf, refusedBy, verdictOf, outcomeIn, outcomeOf}
 use Rattle.rules.specs.Recording.{recordingIn}
-use Rattle.rules.specs.Thirteen.{Breaks}
 use Rattle.rules.specs.Totals.{Totals}
-use Rattle.rules.specs.Exact.{spanAt, counted, Exact, After, fresh, later, Told, tooMany, torn, judged, conforms}
-use Rattle.rules.proofs.Laws.{SoundProgress, Tidy, step-good, step-bad, run-open, next-open, run-stopped, records-append, run-parts, run-sound, fresh-sound, sound-judge, sound-tally, none-refused, refusal-none, outcome-judged, outcome-refused}
-use Rattle.rules.proofs.Reach.{Reached, reached}
+use Rattle.rules.specs.Exact.{counted, Exact, After, fresh, later, Told, tooMany, torn, judged, conforms}
+use Rattle.rules.proofs.Laws.{SoundProgress, step-good, step-bad, run-open, next-open, run-stopped, records-append, run-parts, run-sound, fresh-sound, sound-judge, sound-tally, none-refused, refusal-none, outcome-judged, outcome-refused}
+use Rattle.rules.proofs.Reach.{Ended, Reached, reached}
 use Rattle.rules.proofs.Exactly.{rightly-only, totals-only, reached-exact}
 
 -- ---- what a verdict of conforming says
@@ -144,7 +142,7 @@ zero-sound = record { span = omega arith; starts = omega arith; acks = omega ari
 reached-records : (limit : ℕ) (bytes : List ℕ) (n : ℕ) (j : Judge) (t : Tally) → Reached limit (recordingIn bytes) n (from j t) → t .records ≡ n
 reached-records limit bytes n j t h = go (h .ends)
   where
-    go : ((_≡_ {A = ℕ} 0 0) × (h .place ≡ n)) ⊎ ((_≡_ {A = ℕ} 0 0 → ⊥) × (h .place < n) × Breaks limit (recordingIn bytes) (h .place) noRule × (_≡_ {A = ℕ} 0 (spanAt (recordingIn bytes .lines) (h .place) 0))) → t .records ≡ n
+    go : Ended limit (recordingIn bytes) n (from j t) (h .place) → t .records ≡ n
     go (inl e) = h .before .totals .records ∙ e .1
     go (inr e) = absurd (e .0 refl)
 

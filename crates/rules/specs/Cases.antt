@@ -1,5 +1,5 @@
--- For each of the thirteen rules, and each kind of rule 8, a recording, a few records long, that breaks it first, and a near twin that conforms: no rule is empty.
--- Each recording is judged as bytes, from the start.
+-- For each of the thirteen rules, and each kind of rule 8, a recording, a few records long, that breaks it first, and a near twin that conforms: no
+-- rule is empty. Each recording is judged as bytes, from the start.
 use Prim.Native.Nat.{ℕ}
 use mathlib.Core.Bool.{Bool, true, false}
 use mathlib.Core.List.{List, [], _∷_, _++_}
@@ -208,8 +208,8 @@ about (c ∷ cs) = c .rule ∷ about cs
 abbrev pub handedOver : Tally
 handedOver = record { records = 7; span = 1000; starts = 0; acks = 0; aborted = 0 }
 
--- no rule is empty, no kind of rule 8 either; and P6, "stamps FFFFFFFE to 3: difference 5. 0 to 80000000 passes; 0 to 80000001, and equal stamps, break rule 2.", of
--- which the last two are cases of the table
+-- no rule is empty, no kind of rule 8 either; and P6, "stamps FFFFFFFE to 3: difference 5. 0 to 80000000 passes; 0 to 80000001, and equal stamps,
+-- break rule 2.", of which the last two are cases of the table
 pub record EachRule : Type 0 where
   pub shown : Shown cases
   pub all : about cases ≡ (only 1 ∷ only 1 ∷ only 1 ∷ only 2 ∷ only 2 ∷ only 2 ∷ only 3 ∷ only 3 ∷ only 4 ∷ only 5 ∷ only 6 ∷ only 6 ∷ only 7 ∷ kind8a ∷ kind8a ∷ kind8a ∷ kind8a ∷ kind8b ∷ kind8b ∷ kind8b ∷ kind8b ∷ kind8c ∷ kind8c ∷ kind8c ∷ only 9 ∷ only 9 ∷ only 10 ∷ only 11 ∷ only 12 ∷ only 13 ∷ only 13 ∷ only 13 ∷ only 13 ∷ [])

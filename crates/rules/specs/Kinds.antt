@@ -53,5 +53,5 @@ pub record Kinds : Type 0 where
   -- a state that a recording leads to has no START of a wave that has just begun: RQST inactive one cycle before the last record
   pub led : (limit : ℕ) (past : List ℕ) (j : Judge) (t : Tally) → After limit past j t → j .wave .prior ≡ false → j .wave .since ≡ 3
   -- two states within bounds to which none leads, and of which it is not so
-  pub begun : BothFail 0
-  pub before : BothFail 1
+  pub atLast : BothFail 0
+  pub oneBefore : BothFail 1
