@@ -1,5 +1,6 @@
 /* A plain judge of SpurBus recordings, to measure ours against: the same rules, the same two
-   lines, hold limit 16. Standard input is read 64 KiB at a time.
+   lines, hold limit 16; with the word 'accounts' also who used the bus (document 02, wish 3), a line
+   for each slot. Standard input is read 64 KiB at a time.
    Exit status 0 conforming, 1 breach, 2 refused, 3 unreadable. */
 #include <inttypes.h>
 #include <stdint.h>
@@ -7,7 +8,7 @@
 #include <string.h>
 #include <unistd.h>
 
-enum { LIMIT = 16, WATCHDOG = 256 };
+enum { LIMIT = 16, WATCHDOG = 256, SLOTS = 16 };
 static const uint32_t MOST = (uint32_t)1 << 30;
 
 /* The lines in bits 31 to 20 of a record's second word; AD begins in its low 20 bits. */
@@ -28,6 +29,14 @@ struct state {
     uint32_t open, age, words, strobes;
     uint32_t records, starts, acks, aborted;
     uint64_t span;
+    /* For the accounts: the last wave's starter, and the span at the START of the open transfer. */
+    uint32_t owner;
+    uint64_t began;
+};
+
+struct entry {
+    uint64_t busy;
+    uint32_t starts;
 };
 
 static inline uint64_t big64(const uint8_t *p)
@@ -51,8 +60,10 @@ static inline uint32_t words_of(uint32_t lines, uint32_t ad)
     return ad & 32 ? 0 : 16;
 }
 
-/* Judges records up to the end or a breach, whose rule it gives; the state is that before it. */
-static int judge(struct state *state, const uint8_t *p, const uint8_t *end)
+/* Judges records up to the end or a breach, whose rule it gives; the state is that before it. Made
+   twice, with an account and, NULL, without. */
+static inline __attribute__((always_inline)) int judge_any(struct state *state, const uint8_t *p,
+                                                           const uint8_t *end, struct entry *account)
 {
     struct state s = *state;
     int rule = 0;
@@ -72,6 +83,8 @@ static int judge(struct state *state, const uint8_t *p, const uint8_t *end)
             break;
         }
         if (lines & RESET) {
+            if (account && s.open)
+                account[s.owner].busy += s.span + diff - s.began + 1;
             s.aborted += s.open;
             s.rqst1 = s.rqst2 = s.started = s.turn = s.open = 0;
             goto taken;
@@ -125,8 +138,15 @@ static int judge(struct state *state, const uint8_t *p, const uint8_t *end)
                     s.arb = arb;
                     s.since = 0;
                     s.started = 1;
+                    if (account)
+                        s.owner = arb;
                 }
                 s.starts++;
+                if (account) {
+                    account[s.owner].starts++;
+                    account[s.owner].busy += (lines & ACK) != 0;
+                    s.began = s.span + diff;
+                }
                 if (lines & ACK) {
                     s.acks++;
                 } else {
@@ -151,6 +171,8 @@ static int judge(struct state *state, const uint8_t *p, const uint8_t *end)
                     rule = 13;
                     break;
                 }
+                if (account)
+                    account[s.owner].busy += s.span + diff - s.began + 1;
                 s.since++;
                 s.acks++;
                 s.open = 0;
@@ -191,6 +213,17 @@ static int judge(struct state *state, const uint8_t *p, const uint8_t *end)
     return rule;
 }
 
+static __attribute__((noinline)) int judge(struct state *s, const uint8_t *p, const uint8_t *end)
+{
+    return judge_any(s, p, end, NULL);
+}
+
+static __attribute__((noinline)) int judge_and_account(struct state *s, const uint8_t *p,
+                                                       const uint8_t *end, struct entry *account)
+{
+    return judge_any(s, p, end, account);
+}
+
 /* A breach: its rule, 0 for none, rule 8 with its kind's letter; and the span at its record. */
 struct breach {
     int rule;
@@ -208,9 +241,9 @@ static struct breach told(const struct state *s, const uint8_t *p, int rule)
     return b;
 }
 
-static int say(const struct state *s, struct breach b, int refusal)
+static int say(const struct state *s, const struct entry *account, struct breach b, int refusal)
 {
-    char text[256];
+    char text[256 + 64 * SLOTS];
     int n = snprintf(text, sizeof text,
                      "records %" PRIu32 " span %" PRIu64 " starts %" PRIu32 " acks %" PRIu32
                      " aborted %" PRIu32 " open %" PRIu32 "\n",
@@ -223,6 +256,10 @@ static int say(const struct state *s, struct breach b, int refusal)
         n += snprintf(text + n, sizeof text - (size_t)n, "refused %d\n", refusal);
     else
         n += snprintf(text + n, sizeof text - (size_t)n, "conforming\n");
+    for (int k = 0; account && k < SLOTS; k++)
+        n += snprintf(text + n, sizeof text - (size_t)n,
+                      "slot %d starts %" PRIu32 " busy %" PRIu64 "\n", k, account[k].starts,
+                      account[k].busy);
     for (int at = 0; at < n;) {
         ssize_t w = write(1, text + at, (size_t)(n - at));
         if (w <= 0) {
@@ -234,9 +271,11 @@ static int say(const struct state *s, struct breach b, int refusal)
     return b.rule ? 1 : refusal ? 2 : 0;
 }
 
-int main(void)
+int main(int argc, char **argv)
 {
     static uint8_t bytes[65536];
+    static struct entry slots[SLOTS];
+    struct entry *account = argc > 1 && strcmp(argv[1], "accounts") == 0 ? slots : NULL;
     struct state s = {.diff0 = 1};
     struct breach none = {0};
     size_t have = 0;
@@ -247,15 +286,16 @@ int main(void)
             return 3;
         }
         if (n == 0)
-            return say(&s, none, have ? 1 : 0);
+            return say(&s, account, none, have ? 1 : 0);
         have += (size_t)n;
         size_t whole = have / 16, room = MOST - s.records;
         uint32_t before = s.records;
-        int rule = judge(&s, bytes, bytes + 16 * (whole < room ? whole : room));
+        const uint8_t *end = bytes + 16 * (whole < room ? whole : room);
+        int rule = account ? judge_and_account(&s, bytes, end, account) : judge(&s, bytes, end);
         if (rule)
-            return say(&s, told(&s, bytes + 16 * (size_t)(s.records - before), rule), 0);
+            return say(&s, account, told(&s, bytes + 16 * (size_t)(s.records - before), rule), 0);
         if (whole > room)
-            return say(&s, none, 8);
+            return say(&s, account, none, 8);
         have -= 16 * whole;
         memcpy(bytes, bytes + 16 * whole, have);
     }

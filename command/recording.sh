@@ -125,9 +125,16 @@ run_over() { # NAME WORDS..
     trap - HUP INT QUIT TERM
 }
 
-# Passes on what the program said, and exits by its last line, the verdict: a Rattle program has no exit status of its own.
-tell() { # the verdict that is good
-    case $(tail -n 1 "$room/said") in
+# The verdict in what the program said: its last line, or the one before those of an account. A refusal alone has nothing behind it.
+verdict() { # LINES BEHIND IT
+    lines=$(wc -l <"$room/said")
+    if [ "$lines" -eq 1 ]; then behind=0; else behind=$1; fi
+    if [ "$lines" -gt "$behind" ]; then sed -n "$((lines - behind))p" "$room/said"; fi
+}
+
+# Passes on what the program said, and exits by its verdict: a Rattle program has no exit status of its own.
+tell() { # the verdict that is good, and how many lines stand behind it
+    case $(verdict "${2:-0}") in
     "$1") status=0 ;;
     'breach rule '*) status=1 ;;
     'refused '*) status=2 ;;

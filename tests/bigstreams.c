@@ -35,10 +35,10 @@ struct block *make_block(unsigned long seed)
     judge_fresh(&j, 16);
     memcpy(b->bytes, traffic.bytes, (BLOCK - 1) * RECORD);
     for (size_t i = 0; i < BLOCK - 1; i++)
-        judge_one(&j, &b->t, b->bytes + i * RECORD);
+        account_one(&j, &b->t, b->account, b->bytes + i * RECORD);
     struct record r = {.stamp = j.stamp + 1, .reset = 1};
     record_write(&r, b->bytes + (BLOCK - 1) * RECORD);
-    judge_one(&j, &b->t, b->bytes + (BLOCK - 1) * RECORD);
+    account_one(&j, &b->t, b->account, b->bytes + (BLOCK - 1) * RECORD);
     if (b->t.records != BLOCK) {
         fprintf(stderr, "the block is not sound\n");
         exit(2);
@@ -62,6 +62,15 @@ struct tally blocks_tally(const struct block *b, uint64_t blocks)
     t.acks = (uint32_t)(b->t.acks * blocks);
     t.aborted = (uint32_t)(b->t.aborted * blocks);
     return t;
+}
+
+/* No transfer is open from one block to the next. */
+void blocks_account(const struct block *b, uint64_t blocks, struct entry *account)
+{
+    for (int k = 0; k < SLOTS; k++) {
+        account[k].starts = (uint32_t)(b->account[k].starts * blocks);
+        account[k].busy = b->account[k].busy * blocks;
+    }
 }
 
 void set_stamps(struct block *b, uint32_t base)
@@ -92,7 +101,7 @@ long run_stream(const char *what, writer *write, void *with, uint64_t records, c
     struct plan p = {.command = set.command, .out = -2, .write = write, .with = with,
                      .seconds = set.seconds + (int)(records >> 20)};
     struct result r;
-    char detail[4 * TEXT];
+    char detail[4 * ACCOUNT_TEXT];
     struct timespec a, b;
     clock_gettime(CLOCK_MONOTONIC, &a);
     run_plan(&p, &r);
@@ -100,8 +109,9 @@ long run_stream(const char *what, writer *write, void *with, uint64_t records, c
     double took = (double)(b.tv_sec - a.tv_sec) + (double)(b.tv_nsec - a.tv_nsec) / 1e9;
     int good = printed(&r, text);
     if (good)
-        snprintf(detail, sizeof detail, "%llu records, %.1f s, %ld KiB, %s",
-                 (unsigned long long)records, took, r.memory, strchr(text, '\n') + 1);
+        snprintf(detail, sizeof detail, "%llu records, %.1f s, %ld KiB, %.*s",
+                 (unsigned long long)records, took, r.memory,
+                 (int)strcspn(strchr(text, '\n') + 1, "\n"), strchr(text, '\n') + 1);
     else
         snprintf(detail, sizeof detail, "expected\n%sgot (%s)\n%.*s", text, ending(&r),
                  (int)r.out.len, r.out.bytes == NULL ? "" : (const char *)r.out.bytes);
@@ -117,13 +127,16 @@ long run_stream(const char *what, writer *write, void *with, uint64_t records, c
 static void judged_blocks(const struct block *b, uint64_t blocks, char *text)
 {
     struct tally t = blocks_tally(b, blocks);
+    struct entry account[SLOTS];
+    blocks_account(b, blocks, account);
     judge_text(&t, 0, NO_BREACH, 0, text);
+    add_lines(account, text);
 }
 
 static long run_blocks(const char *what, struct block *b, uint64_t blocks, blocks_text *right)
 {
     struct stream s = {b, blocks};
-    char text[TEXT];
+    char text[ACCOUNT_TEXT];
     right(b, blocks, text);
     return run_stream(what, write_stream, &s, blocks * BLOCK, text);
 }
@@ -205,17 +218,19 @@ static void random_run(enum kind kind, uint64_t size, unsigned long seed, int sa
     struct rng g = {seed};
     struct judge j;
     struct tally t = {0};
+    struct entry account[SLOTS] = {{0}};
     struct result r;
-    char text[TEXT], detail[4 * TEXT] = "";
+    char text[ACCOUNT_TEXT], detail[4 * ACCOUNT_TEXT] = "";
     struct verdict v = NO_BREACH;
     uint32_t stamp = 0;
     judge_fresh(&j, 16);
     for (uint64_t at = 0; size - at >= RECORD && v.rule == 0; at += RECORD) {
         if (at % sizeof bytes == 0)
             random_block(&g, kind, &stamp, bytes);
-        v = judge_one(&j, &t, bytes + at % sizeof bytes);
+        v = account_one(&j, &t, account, bytes + at % sizeof bytes);
     }
     judge_text(&t, j.open, v, size % RECORD != 0, text);
+    add_lines(account, text);
     run_plan(&p, &r);
     int good = printed(&r, text);
     if (!good)
@@ -229,10 +244,10 @@ static void random_run(enum kind kind, uint64_t size, unsigned long seed, int sa
     result_free(&r);
 }
 
-void big_random(void)
+void big_random(int small)
 {
     struct rng g = {set.seed + 2};
-    for (int i = 0; i < 30; i++)
+    for (int i = 0; i < small; i++)
         random_run((enum kind)(i % 3), rng_below(&g, 100000), (unsigned long)rng_next(&g), 0);
     for (int kind = AS_THEY_ARE; kind <= RESETS; kind++)
         random_run((enum kind)kind, ((uint64_t)set.megabytes << 20) + 3 * (kind == RESETS),

@@ -70,6 +70,7 @@ static void write_bound(int to, void *with)
 static void bound_text(const struct last *l, char *text)
 {
     struct tally t = blocks_tally(l->block, l->blocks), of_last = {0};
+    struct entry account[SLOTS];
     struct judge j;
     struct verdict v = NO_BREACH;
     uint8_t *bytes = malloc(2 * WHOLE);
@@ -80,8 +81,9 @@ static void bound_text(const struct last *l, char *text)
     memcpy(bytes + WHOLE, l->block->bytes, WHOLE);
     spoil_spare(l->bound, bytes);
     judge_fresh(&j, 16);
+    blocks_account(l->block, l->blocks, account);
     for (size_t i = 0; i < BLOCK && v.rule == 0; i++)
-        v = judge_one(&j, &of_last, bytes + i * RECORD);
+        v = account_one(&j, &of_last, account, bytes + i * RECORD);
     free(bytes);
     t.records += of_last.records;
     t.span += of_last.span + 1; /* and the step from the block before */
@@ -91,22 +93,43 @@ static void bound_text(const struct last *l, char *text)
     v.record = t.records; /* the one breach here is of rule 1, and tells the totals' span */
     v.span = t.span;
     judge_text(&t, j.open, v, l->bound->refusal, text);
+    add_lines(account, text);
     if (v.rule != l->bound->rule) {
         fprintf(stderr, "the breach isn't where it was meant\n");
         exit(2);
     }
 }
 
+/* One of the runs, under the number by which it may be asked for. */
+static void run_bound(const struct bound *bound, struct block *b, int number)
+{
+    char text[ACCOUNT_TEXT];
+    struct last l = {bound, b, MOST_RECORDS / BLOCK - 1};
+    if (!bound_wanted(number))
+        return;
+    bound_text(&l, text);
+    run_stream(bound->what, write_bound, &l, MOST_RECORDS, text);
+}
+
 void big_boundary(void)
 {
     struct block *b = make_block(set.seed + 1);
-    char text[TEXT];
-    for (int i = 0; i < JUDGE_BOUNDS; i++) {
-        struct last l = {&bounds[i], b, MOST_RECORDS / BLOCK - 1};
-        if (!bound_wanted(1 + i))
-            continue;
-        bound_text(&l, text);
-        run_stream(bounds[i].what, write_bound, &l, MOST_RECORDS, text);
-    }
+    for (int i = 0; i < JUDGE_BOUNDS; i++)
+        run_bound(&bounds[i], b, 1 + i);
+    free(b);
+}
+
+/* The accounts' program at one more record, at a torn piece, and at a breach in a read across. */
+void account_boundary(void)
+{
+    static const int of_judge[ACCOUNT_BOUNDS] = {1, 2, 5};
+    struct block *b = make_block(set.seed + 1);
+    const char *before = set.command;
+    set.command = set.accounts;
+    set.counting = 1;
+    for (int i = 0; i < ACCOUNT_BOUNDS; i++)
+        run_bound(&bounds[of_judge[i]], b, JUDGE_BOUNDS + PHASE_BOUNDS + 1 + i);
+    set.command = before;
+    set.counting = 0;
     free(b);
 }

@@ -7,8 +7,8 @@ mkdir -p "$out/obj"
 out=$(cd "$out" && pwd)
 cd "$(dirname "$0")"
 flags="-O2 -std=c11 -Wall -Wextra -Werror"
-model="record codes contest bus cache judging calls"
-makers="make traffic wild damage callsmake callsbus callscache callsjudge"
+model="record codes contest bus cache judging accounts calls"
+makers="make traffic wild owners damage callsmake callsbus callscache callsjudge callsaccount"
 marks="marks marked"
 running="run describe compare"
 for c in *.c; do
@@ -20,13 +20,14 @@ link() { # the program, then its objects
 }
 link modelcalls $model
 link modeljudge $model
-link outside $model $makers $running
-link faults bigstreams boundary phasefaults marks $model $makers $running
+link outside accountsmet $model $makers $running
+link faults bigstreams boundary phasefaults accountfaults marks $model $makers $running
 link limits $model $makers $running
-link golden goldenrules goldenbreach goldenphases $model $makers $running
+link golden goldenrules goldenbreach goldenphases goldenaccounts goldenentries $model $makers $running
 link modelphases marks $model
+link modelaccounts $model
 link phases phasewords $marks $model $makers $running
-link selftest lookback selfmarks marksback $marks $model $makers
+link selftest lookback selfmarks marksback selfaccounts accountsback accountsmet $marks $model $makers
 link makerec $marks $model $makers
 link makecalls $model $makers
 for p in judge make; do

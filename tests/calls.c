@@ -225,34 +225,78 @@ static void watch_loose(struct driver *d, const uint8_t *bytes, size_t records, 
     }
 }
 
-static void call_judge(struct driver *d, const uint8_t *c, uint8_t *a)
+/* A transfer set open where no wave has had a START since the reset is no slot's, so the paper doesn't
+   say whose busy cycles it adds when it ends in a judging with an account. */
+static void watch_owner(struct driver *d, int op, const uint8_t *bytes, size_t taken)
+{
+    struct record r;
+    for (size_t i = 0; i < taken && d->loose_owner; i++) {
+        record_read(&r, bytes + i * RECORD);
+        if (!r.reset && !r.ack)
+            continue;
+        d->loose_owner = 0;
+        d->unknown |= op == 23;
+    }
+}
+
+/* 20, without an account, and 23 with one. */
+static void call_recording(struct driver *d, const uint8_t *c, uint8_t *a)
 {
     struct verdict v;
     uint32_t before = d->tally.records;
-    int had_turn = d->judge.turn > 0;
     size_t len = at_most(c[1], 48);
+    if (c[0] == 20)
+        a[0] = (uint8_t)judge_recording(&d->judge, &d->tally, c + 2, len, &v);
+    else
+        a[0] = (uint8_t)account_recording(&d->judge, &d->tally, d->account, at_most(c[50], ENTRIES),
+                                          c + 2, len, &v);
+    if (a[0] == 0) {
+        watch_owner(d, c[0], c + 2, d->tally.records - before);
+        watch_loose(d, c + 2, len / RECORD, d->tally.records - before, v);
+    }
+    a[1] = (uint8_t)v.rule;
+    set_number(a + 2, 4, v.record);
+    set_number(a + 6, 4, d->tally.records);
+    set_number(a + 10, 8, d->tally.span);
+    set_number(a + 18, 4, d->tally.starts);
+    set_number(a + 22, 4, d->tally.acks);
+    set_number(a + 26, 4, d->tally.aborted);
+    a[30] = d->judge.open;
+    a[31] = (uint8_t)v.kind;
+    set_number(a + 32, 8, v.span);
+}
+
+/* 22 sets the base's fields alone; "a transfer set open has been busy for its age and one cycle". */
+static void set_judge(struct driver *d, const uint8_t *c)
+{
+    struct judge *j = &d->judge;
+    int had_turn = j->turn > 0;
+    j->limit = c[1];
+    j->open = c[2] != 0;
+    j->age = j->open ? (uint16_t)number(c + 3, 2) : 0;
+    j->busy = j->open ? j->age + 1u : 0;
+    j->words = j->open ? c[5] : 0;
+    j->strobes = j->open ? c[6] : 0;
+    j->turn = c[7];
+    j->arb = c[8];
+    d->loose_turn |= !had_turn || c[7] == 0;
+    d->loose_age |= j->open && !j->has_stamp;
+    d->loose_owner = j->open && !j->started;
+}
+
+static void call_judge(struct driver *d, const uint8_t *c, uint8_t *a)
+{
     switch (c[0]) {
     case 19:
         a[0] = (uint8_t)judge_fresh(&d->judge, c[1]);
         if (a[0] == 0) {
             d->tally = (struct tally){0};
-            d->loose_turn = d->loose_age = d->unknown = 0;
+            memset(d->account, 0, sizeof d->account);
+            d->loose_turn = d->loose_age = d->loose_owner = d->unknown = 0;
         }
         break;
-    case 20:
-        a[0] = (uint8_t)judge_recording(&d->judge, &d->tally, c + 2, len, &v);
-        if (a[0] == 0)
-            watch_loose(d, c + 2, len / RECORD, d->tally.records - before, v);
-        a[1] = (uint8_t)v.rule;
-        set_number(a + 2, 4, v.record);
-        set_number(a + 6, 4, d->tally.records);
-        set_number(a + 10, 8, d->tally.span);
-        set_number(a + 18, 4, d->tally.starts);
-        set_number(a + 22, 4, d->tally.acks);
-        set_number(a + 26, 4, d->tally.aborted);
-        a[30] = d->judge.open;
-        a[31] = (uint8_t)v.kind;
-        set_number(a + 32, 8, v.span);
+    case 20: case 23:
+        call_recording(d, c, a);
         break;
     case 21:
         d->tally.records = (uint32_t)number(c + 1, 4);
@@ -262,17 +306,24 @@ static void call_judge(struct driver *d, const uint8_t *c, uint8_t *a)
         d->tally.aborted = (uint32_t)number(c + 21, 4);
         break;
     case 22:
-        d->judge.limit = c[1];
-        d->judge.open = c[2] != 0;
-        d->judge.age = d->judge.open ? (uint16_t)number(c + 3, 2) : 0;
-        d->judge.words = d->judge.open ? c[5] : 0;
-        d->judge.strobes = d->judge.open ? c[6] : 0;
-        d->judge.turn = c[7];
-        d->judge.arb = c[8];
-        d->loose_turn |= !had_turn || c[7] == 0;
-        d->loose_age |= d->judge.open && !d->judge.has_stamp;
+        set_judge(d, c);
         break;
     }
+}
+
+/* 24 and 25 (02, wish 3): an account has room for seventeen entries, however many are lent. */
+static void call_account(struct driver *d, const uint8_t *c, uint8_t *a)
+{
+    struct entry e;
+    if (c[0] == 25) {
+        e.starts = (uint32_t)number(c + 2, 4);
+        e.busy = number(c + 6, 8);
+        d->account[c[1] % ENTRIES] = e;
+        return;
+    }
+    a[0] = (uint8_t)account_slot(&d->tally, d->account, at_most(c[2], ENTRIES), c[1], &e);
+    set_number(a + 1, 4, e.starts);
+    set_number(a + 5, 8, e.busy);
 }
 
 int driver_call(struct driver *d, const uint8_t *call, uint8_t *answer)
@@ -291,9 +342,12 @@ int driver_call(struct driver *d, const uint8_t *call, uint8_t *answer)
     case 11: case 12: case 13: case 14: case 15: case 16: case 17: case 18:
         call_cache(d, call, answer);
         break;
-    case 19: case 20: case 21: case 22:
+    case 19: case 20: case 21: case 22: case 23:
         call_judge(d, call, answer);
-        return call[0] != 20 || !d->unknown;
+        return (call[0] != 20 && call[0] != 23) || !d->unknown;
+    case 24: case 25:
+        call_account(d, call, answer);
+        return call[0] != 24 || !d->unknown;
     default:
         answer[0] = 255;
     }

@@ -1,19 +1,27 @@
 /* Recordings given to the judge in pieces, with torn pieces, raw states and raw tallies between
-   them (01, "The judge"; refusals 5, 8, 1, 3). */
+   them (01, "The judge"; refusals 5, 8, 1, 3); some or all of them with an account (02, wish 3). */
 #include <stdlib.h>
 #include <string.h>
 #include "caller.h"
 
-static void piece(struct caller *c, const uint8_t *bytes, size_t len)
+/* With an account or without, by chance; without where it would be left to the build whose a transfer
+   is. */
+void call_piece(struct caller *c, const uint8_t *bytes, size_t len)
 {
-    caller_clear(c, 20);
+    int account = rng_chance(c->g, c->accounts) && (!c->d.loose_owner || rng_chance(c->g, 3));
+    if (c->accounts > 0)
+        account_between(c);
+    caller_clear(c, account ? 23 : 20);
     c->call[1] = (uint8_t)(len == 48 && rng_chance(c->g, 20) ? 48 + rng_below(c->g, 208) : len);
+    c->call[50] = account ? account_lent(c->g) : c->call[50];
     if (len > 0)
         memcpy(c->call + 2, bytes, len);
     caller_issue(c);
+    if (account && c->answer[0] != 0)
+        account_again(c);
 }
 
-static void set_tally(struct caller *c, const struct tally *t)
+void call_set_tally(struct caller *c, const struct tally *t)
 {
     caller_clear(c, 21);
     caller_number(c, 1, 4, t->records);
@@ -24,7 +32,7 @@ static void set_tally(struct caller *c, const struct tally *t)
     caller_issue(c);
 }
 
-static void set_judge(struct caller *c, const struct judge *j)
+void call_set_judge(struct caller *c, const struct judge *j)
 {
     caller_clear(c, 22);
     c->call[1] = j->limit;
@@ -37,7 +45,7 @@ static void set_judge(struct caller *c, const struct judge *j)
     caller_issue(c);
 }
 
-static void fresh(struct caller *c, unsigned limit)
+void call_fresh(struct caller *c, unsigned limit)
 {
     if (rng_chance(c->g, 6)) { /* refused first: judge and tally stay */
         caller_clear(c, 19);
@@ -45,7 +53,7 @@ static void fresh(struct caller *c, unsigned limit)
                                                               ? 17
                                                               : 17 + rng_below(c->g, 239));
         caller_issue(c);
-        piece(c, NULL, 0);
+        call_piece(c, NULL, 0);
     }
     caller_clear(c, 19);
     c->call[1] = (uint8_t)limit;
@@ -110,14 +118,14 @@ static void try_tally(struct caller *c, const uint8_t *bytes, size_t len)
 {
     struct rng *g = c->g;
     struct tally kept = c->d.tally, t = odd_tally(g);
-    set_tally(c, &t);
+    call_set_tally(c, &t);
     for (uint32_t i = 1 + rng_below(g, 3); i > 0; i--) {
         size_t n = rng_below(g, 4) * RECORD + (rng_chance(g, 30) ? rng_below(g, 16) : 0);
-        piece(c, bytes, n < len ? n : len);
+        call_piece(c, bytes, n < len ? n : len);
         if (c->d.tally.records != t.records)
             return; /* the judge has moved on */
     }
-    set_tally(c, &kept);
+    call_set_tally(c, &kept);
 }
 
 /* A START right after a wave's first cycle: 8b, whatever turn is set. */
@@ -128,7 +136,7 @@ static void early_start(struct caller *c)
     r.arb = (uint8_t)rng_below(c->g, 16);
     r.rqst = (uint8_t)rng_chance(c->g, 50);
     record_write(&r, bytes);
-    piece(c, bytes, RECORD);
+    call_piece(c, bytes, RECORD);
 }
 
 /* A judge set raw. Within a wave that has had a START the settings are plain, and the recording
@@ -141,30 +149,30 @@ static void try_judge(struct caller *c, unsigned limit, const uint8_t *bytes, si
     struct record r = {.stamp = kept.stamp + 1, .reset = 1};
     if (rng_chance(g, 60))
         spoil(g, &j);
-    set_judge(c, &j);
+    call_set_judge(c, &j);
     size_t n = rng_below(g, 4) * RECORD + (rng_chance(g, 30) ? rng_below(g, 16) : 0);
     if (plain && rng_chance(g, 70) && j.turn > 0) {
-        piece(c, bytes, n < len ? n : len);
+        call_piece(c, bytes, n < len ? n : len);
         if (!judge_bounds(&c->d.judge, &c->d.tally)) {
             j = some_judge(g, limit);
-            set_judge(c, &j);
+            call_set_judge(c, &j);
         }
         return;
     }
-    piece(c, bytes, rng_chance(g, 50) ? 0 : rng_below(g, 16));
+    call_piece(c, bytes, rng_chance(g, 50) ? 0 : rng_below(g, 16));
     if (kept.rqst1 && !kept.rqst2)
         early_start(c);
     if (rng_chance(g, 50)) {
         j = some_judge(g, limit);
-        set_judge(c, &j);
+        call_set_judge(c, &j);
     }
     uint8_t reset[RECORD];
     record_write(&r, reset);
-    piece(c, reset, RECORD);
+    call_piece(c, reset, RECORD);
     if (c->answer[0] != 0) { /* still out of bounds */
         j = some_judge(g, limit);
-        set_judge(c, &j);
-        piece(c, reset, RECORD);
+        call_set_judge(c, &j);
+        call_piece(c, reset, RECORD);
     }
 }
 
@@ -179,7 +187,7 @@ static void go_on(struct caller *c, int count)
         m.j = c->d.judge;
         wild_propose(&m, &r, &spare, rng_chance(c->g, 20) ? 25 : 0);
         record_spare_write(&r, spare, bytes);
-        piece(c, bytes, RECORD);
+        call_piece(c, bytes, RECORD);
     }
 }
 
@@ -189,8 +197,8 @@ static void first_records(struct caller *c, unsigned limit)
 {
     struct tally t = {.records = 1 + rng_below(c->g, 1000)};
     t.span = rng_next(c->g) % (((uint64_t)1 << 31) * t.records);
-    fresh(c, limit);
-    set_tally(c, &t);
+    call_fresh(c, limit);
+    call_set_tally(c, &t);
     go_on(c, 1 + (int)rng_below(c->g, 4));
 }
 
@@ -200,11 +208,11 @@ static void raw_turn(struct caller *c, unsigned limit)
     struct record r = {.stamp = rng_word(c->g), .rqst = 1};
     struct judge j = some_judge(c->g, limit);
     uint8_t bytes[RECORD];
-    fresh(c, limit);
+    call_fresh(c, limit);
     record_write(&r, bytes);
-    piece(c, bytes, RECORD);
+    call_piece(c, bytes, RECORD);
     j.open = (uint8_t)rng_chance(c->g, 10);
-    set_judge(c, &j);
+    call_set_judge(c, &j);
     early_start(c);
 }
 
@@ -215,7 +223,8 @@ static void recording(struct caller *c, size_t calls)
     unsigned limit = c->out->len == 0 ? 16 : 1 + rng_below(g, 16);
     uint32_t raw = rng_chance(g, 40) ? 3 : 0;
     maker_start(&m, g, limit);
-    switch (rng_below(g, 6)) {
+    switch (c->accounts > 0 && rng_chance(g, 40) ? 6 : rng_below(g, 6)) {
+    case 6: traffic_owners(&m, 20 + rng_below(g, 100), rng_chance(g, 12)); break;
     case 0: traffic_bus(&m, rng_below(g, 120)); break;
     case 1: traffic_wild(&m, rng_below(g, 120)); break;
     case 2: damage(&m, 8, 1 + (int)rng_below(g, KINDS - 1)); break;
@@ -226,7 +235,7 @@ static void recording(struct caller *c, size_t calls)
     if (c->out->len > 0 && rng_chance(g, 10))
         raw_turn(c, limit);
     if (limit != 16 || c->out->len > 0) /* at first the judge is fresh, with limit 16 */
-        fresh(c, limit);
+        call_fresh(c, limit);
     for (size_t at = 0; at < m.out.len && !caller_full(c, calls);) {
         size_t left = m.out.len - at, n = rng_below(g, 4) * RECORD;
         if (n > left)
@@ -237,9 +246,9 @@ static void recording(struct caller *c, size_t calls)
             try_judge(c, limit, m.out.bytes + at, left < 48 ? left : 48);
         if (rng_chance(g, 4)) { /* torn: refused whole, and given again */
             size_t torn = n + 1 + rng_below(g, 15);
-            piece(c, m.out.bytes + at, torn > 48 || torn > left ? left % RECORD : torn);
+            call_piece(c, m.out.bytes + at, torn > 48 || torn > left ? left % RECORD : torn);
         }
-        piece(c, m.out.bytes + at, n);
+        call_piece(c, m.out.bytes + at, n);
         at += n;
         if (c->answer[1] != 0 && rng_chance(g, 60))
             break; /* a breach: the rest would mostly break rule 2 or 9 */
@@ -279,11 +288,11 @@ static void bounds(struct caller *c)
     list[n].words = 1;
     list[n++].strobes = 0;
     for (size_t i = 0; i < n; i++) {
-        set_judge(c, &list[i]);
-        piece(c, NULL, 0);
-        piece(c, (const uint8_t[RECORD]){0}, 1 + i % 15);
+        call_set_judge(c, &list[i]);
+        call_piece(c, NULL, 0);
+        call_piece(c, (const uint8_t[RECORD]){0}, 1 + i % 15);
     }
-    fresh(c, 16);
+    call_fresh(c, 16);
     for (uint32_t records = 0; records <= 3; records++)
         for (int field = 0; field < 8; field++) {
             struct tally t = {records, (uint64_t)records << 31, records, records, records};
@@ -293,31 +302,35 @@ static void bounds(struct caller *c)
             t.aborted += field == 3;
             t.records = field == 4 ? 0xFFFFFFFF : t.records;
             t.span -= field == 5 && records > 0;
-            set_tally(c, &t);
-            piece(c, NULL, 0);
-            piece(c, (const uint8_t[RECORD]){0}, 7);
+            call_set_tally(c, &t);
+            call_piece(c, NULL, 0);
+            call_piece(c, (const uint8_t[RECORD]){0}, 7);
         }
     for (uint32_t i = 0; i < 40; i++) { /* inactive lines in a row, up to 2^30 records and past */
         uint8_t bytes[3 * RECORD] = {0};
         struct tally t = {(uint32_t)MOST_RECORDS - 3 + i % 5, 0, 0, 0, 0};
         for (int k = 0; k < 3; k++)
             bytes[k * RECORD + 2] = (uint8_t)i, bytes[k * RECORD + 3] = (uint8_t)(k + 1);
-        set_tally(c, &t);
-        piece(c, bytes, i / 5 % 4 * RECORD + (i >= 20 && i / 5 % 4 < 3 ? 1 + i % 15 : 0));
+        call_set_tally(c, &t);
+        call_piece(c, bytes, i / 5 % 4 * RECORD + (i >= 20 && i / 5 % 4 < 3 ? 1 + i % 15 : 0));
     }
 }
 
-void calls_judge(struct buffer *out, struct rng *g, size_t calls)
+void calls_judge(struct buffer *out, struct rng *g, size_t calls, uint32_t accounts)
 {
     struct caller *c = malloc(sizeof *c);
     if (c == NULL)
         exit(2);
     caller_start(c, out, g);
+    c->accounts = accounts;
     if (rng_chance(g, 70)) {
         recording(c, calls);
         bounds(c);
     }
-    while (!caller_full(c, calls))
+    while (!caller_full(c, calls)) {
+        if (accounts > 0 && rng_chance(g, 30))
+            account_scene(c);
         recording(c, calls);
+    }
     free(c);
 }

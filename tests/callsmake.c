@@ -3,13 +3,14 @@
 #include <string.h>
 #include "caller.h"
 
-const char *const subject_names[SUBJECTS] = {"codes", "records", "bus", "cache", "judge", "any",
-                                                    "every code"};
+const char *const subject_names[SUBJECTS] = {"codes", "records", "bus", "cache", "judge", "accounts",
+                                             "any", "every code"};
 
 void caller_start(struct caller *c, struct buffer *out, struct rng *g)
 {
     c->out = out;
     c->g = g;
+    c->accounts = 0;
     driver_start(&c->d);
 }
 
@@ -168,7 +169,7 @@ static void one_record(struct caller *c)
 static void one_of_any(struct caller *c)
 {
     struct rng *g = c->g;
-    caller_clear(c, (int)(rng_chance(g, 97) ? rng_below(g, 26) : rng_below(g, 256)));
+    caller_clear(c, (int)(rng_chance(g, 97) ? rng_below(g, 29) : rng_below(g, 256)));
     for (int i = 1; i < CALL; i++)
         if (rng_chance(g, 60))
             c->call[i] = (uint8_t)(rng_chance(g, 70) ? rng_below(g, 20) : rng_below(g, 256));
@@ -183,6 +184,12 @@ static void one_of_any(struct caller *c)
         caller_number(c, 2, 2, 16u * c->call[1]);
         caller_number(c, 4, 2, 16u * c->call[1]);
     }
+    if (c->call[0] == 23 && rng_chance(g, 80))
+        c->call[50] = SLOTS;
+    if (c->call[0] == 24 && rng_chance(g, 80))
+        c->call[2] = SLOTS;
+    if (c->call[0] == 25 && rng_chance(g, 50))
+        caller_number(c, 2, 12, 0);
     if (c->call[0] == 10 && rng_chance(g, 70)) {
         c->call[18] %= 3;
         c->call[21] = (uint8_t)(1 + c->call[21] % 16);
@@ -201,7 +208,8 @@ void make_calls(struct buffer *out, struct rng *g, enum subject s, size_t calls)
     switch (s) {
     case BUS: calls_bus(out, g, calls); break;
     case CACHE: calls_cache(out, g, calls); break;
-    case JUDGE: calls_judge(out, g, calls); break;
+    case JUDGE: calls_judge(out, g, calls, 0); break;
+    case ACCOUNTS: calls_judge(out, g, calls, 60 + 20 * rng_below(g, 3)); break;
     default:
         caller_start(c, out, g);
         if (s == EVERY_CODE)

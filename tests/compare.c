@@ -17,9 +17,9 @@ static void cover(const uint8_t *c, const uint8_t *a)
     if (c[0] == 18)
         return;
     covered.refusals[a[0]]++;
-    if (c[0] < 23 && a[0] < 9)
+    if (c[0] < OPERATIONS && a[0] < 9)
         covered.op_refusal[c[0]][a[0]]++;
-    if (c[0] == 20 && a[0] == 0) {
+    if ((c[0] == 20 || c[0] == 23) && a[0] == 0) {
         covered.rules[a[1]]++;
         covered.kinds[a[31]]++;
         covered.far += (a[32] | a[33] | a[34] | a[35]) != 0;
@@ -127,7 +127,7 @@ static long recording_differs(const struct subject_program *p, const struct buff
     char expected[MOST_TEXT];
     int status = 0;
     if (p->model != NULL)
-        p->model(p->with, in->bytes, in->len, expected);
+        status = p->model(p->with, in->bytes, in->len, expected);
     else
         status = judge_program(NO_LIMIT_GIVEN, in->bytes, in->len, expected);
     run_bytes(p->command, in->bytes, in->len, p->feed, p->seconds, &r);
@@ -159,7 +159,7 @@ static uint8_t *record_from(const struct buffer *in, size_t unit, size_t *at)
         }
         const uint8_t *call = in->bytes + *at / CALL * CALL;
         size_t place = *at % CALL / RECORD, len = call[1] > 48 ? 48 : call[1];
-        if (call[0] == 20 && place < len / RECORD) {
+        if ((call[0] == 20 || call[0] == 23) && place < len / RECORD) {
             *at += RECORD;
             return p + 2;
         }

@@ -4,7 +4,8 @@
 static const char *const names[] = {
     "no operation", "pack", "unpack", "decode", "encode", "status", "parity", "contest",
     "fresh bus", "cycle", "set bus", "cache sizes", "set memory", "set copy", "read", "write",
-    "evict", "states", "copies", "fresh judge", "judge", "set tally", "set judge"};
+    "evict", "states", "copies", "fresh judge", "judge", "set tally", "set judge",
+    "judge and account", "account of a slot", "set account"};
 
 static unsigned long long number(const uint8_t *b, int bytes)
 {
@@ -88,8 +89,10 @@ void say_call(FILE *to, const uint8_t *c)
     case 14: case 16: fprintf(to, " slot %d block %d", c[1], c[2]); break;
     case 15: fprintf(to, " slot %d block %d value %08llX", c[1], c[2], number(c + 3, 4)); break;
     case 17: case 18: fprintf(to, " block %d", c[1] % 64); break;
-    case 20:
+    case 20: case 23:
         fprintf(to, " %d bytes", c[1]);
+        if (c[0] == 23)
+            fprintf(to, ", %d entries", c[50]);
         for (int i = 0; i < 3 && (i + 1) * RECORD <= c[1]; i++) {
             fprintf(to, "; ");
             say_record(to, c + 2 + i * RECORD);
@@ -100,6 +103,9 @@ void say_call(FILE *to, const uint8_t *c)
                      number(c + 21, 4)); break;
     case 22: fprintf(to, " limit %d open %d age %llu words %d strobes %d turn %d ARB %d", c[1],
                      c[2] != 0, number(c + 3, 2), c[5], c[6], c[7], c[8]); break;
+    case 24: fprintf(to, " slot %d, %d entries", c[1], c[2]); break;
+    case 25: fprintf(to, " entry %d starts %llu busy %llu", c[1] % ENTRIES, number(c + 2, 4),
+                     number(c + 6, 8)); break;
     }
 }
 
@@ -133,7 +139,8 @@ void say_answer(FILE *to, const uint8_t *c, const uint8_t *a)
         for (int i = 0; i < SLOTS; i++)
             fprintf(to, " %d", a[5 + i]);
         break;
-    case 20:
+    case 24: fprintf(to, "starts %llu busy %llu", number(a + 1, 4), number(a + 5, 8)); break;
+    case 20: case 23:
         fprintf(to, "rule %d kind %s (%d) record %llu span %llu; records %llu span %llu starts "
                     "%llu acks %llu aborted %llu open %d", a[1],
                 a[31] < KINDS ? kinds[a[31]] : "?", a[31], number(a + 2, 4), number(a + 32, 8),

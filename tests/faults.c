@@ -1,9 +1,10 @@
 /* Faults: torn ends, input in small pieces, inputs and outputs that are closed or fail, random
    bytes, memory, and with --boundary the real bound of 2^30 records; --bound K has the K-th run
-   there alone. The boot report's program has the same, where it is given.
+   there alone. The boot report's program has the same, where it is given, and the accounts' has some of
+   it.
 
-   faults --judge COMMAND [--phases COMMAND] [--megabytes N] [--seed S] [--seconds T] [--boundary]
-          [--bound K] [--quick] */
+   faults --judge COMMAND [--phases COMMAND] [--accounts COMMAND] [--megabytes N] [--seed S]
+          [--seconds T] [--boundary] [--bound K] [--quick] */
 #define _DEFAULT_SOURCE 1
 #include <fcntl.h>
 #include <signal.h>
@@ -39,11 +40,21 @@ static void told(const struct result *r, const char *expected, char *detail, siz
              r->out.bytes == NULL ? "" : (const char *)r->out.bytes);
 }
 
-static void compare(const char *what, const uint8_t *bytes, size_t len, struct feed feed)
+void add_lines(const struct entry *account, char *text)
+{
+    size_t n = strlen(text);
+    if (set.counting)
+        account_lines(account, text + n, ACCOUNT_TEXT - n);
+}
+
+void compare_bytes(const char *what, const uint8_t *bytes, size_t len, struct feed feed)
 {
     struct result r;
-    char expected[TEXT], detail[3 * TEXT] = "";
-    judge_program(NO_LIMIT_GIVEN, bytes, len, expected);
+    char expected[ACCOUNT_TEXT], detail[3 * ACCOUNT_TEXT] = "";
+    if (set.counting)
+        account_program(NO_LIMIT_GIVEN, bytes, len, expected);
+    else
+        judge_program(NO_LIMIT_GIVEN, bytes, len, expected);
     run_bytes(set.command, bytes, len, feed, set.seconds, &r);
     int good = printed(&r, expected);
     if (!good)
@@ -68,12 +79,12 @@ static void torn_ends(struct rng *g)
     static const size_t around[] = {4096, 65536, 131072};
     struct feed feed = {BY_FILE, 0};
     for (size_t len = 0; len < 64; len++)
-        compare("torn end", m.out.bytes, len, feed);
+        compare_bytes("torn end", m.out.bytes, len, feed);
     for (int i = 0; i < 3; i++)
         for (size_t len = around[i] - 17; len <= around[i] + 17; len++) {
             feed.way = len % 2 ? BY_FILE : BY_PIPE;
             feed.piece = 65536;
-            compare("torn end", m.out.bytes, len, feed);
+            compare_bytes("torn end", m.out.bytes, len, feed);
         }
     outcome(1, "torn ends", "lengths 0 to 63, and within 17 of 4096, 65536 and 131072");
     buffer_free(&m.out);
@@ -83,10 +94,10 @@ static void torn_ends(struct rng *g)
 static void pieces_of(struct rng *g, struct feed feed)
 {
     struct maker m = some_traffic(g, feed.piece < 15 ? 150 : 1500);
-    compare("small pieces", m.out.bytes, m.out.len, feed);
-    compare("small pieces, a torn end", m.out.bytes, m.out.len - 1 - rng_below(g, 15), feed);
+    compare_bytes("small pieces", m.out.bytes, m.out.len, feed);
+    compare_bytes("small pieces, a torn end", m.out.bytes, m.out.len - 1 - rng_below(g, 15), feed);
     damage(&m, 1 + (int)rng_below(g, 13), 0);
-    compare("small pieces, a breach", m.out.bytes, m.out.len, feed);
+    compare_bytes("small pieces, a breach", m.out.bytes, m.out.len, feed);
     buffer_free(&m.out);
 }
 
@@ -211,6 +222,8 @@ static void read_options(int argc, char **argv)
             set.command = argv[++i];
         else if (i + 1 < argc && strcmp(argv[i], "--phases") == 0)
             set.phases = argv[++i];
+        else if (i + 1 < argc && strcmp(argv[i], "--accounts") == 0)
+            set.accounts = argv[++i];
         else if (i + 1 < argc && strcmp(argv[i], "--megabytes") == 0)
             set.megabytes = strtoul(argv[++i], NULL, 0);
         else if (i + 1 < argc && strcmp(argv[i], "--seed") == 0)
@@ -223,8 +236,9 @@ static void read_options(int argc, char **argv)
             set.command = NULL, i = argc;
     }
     if (set.command == NULL) {
-        fprintf(stderr, "faults --judge COMMAND [--phases COMMAND] [--megabytes N] [--seed S] "
-                        "[--seconds T] [--boundary] [--bound K] [--quick]\n");
+        fprintf(stderr, "faults --judge COMMAND [--phases COMMAND] [--accounts COMMAND] "
+                        "[--megabytes N] [--seed S] [--seconds T] [--boundary] [--bound K] "
+                        "[--quick]\n");
         exit(2);
     }
 }
@@ -232,6 +246,20 @@ static void read_options(int argc, char **argv)
 int bound_wanted(int number)
 {
     return set.bound == 0 ? set.boundary : set.bound == number;
+}
+
+/* The numbers of the runs are the same whatever programs are given. */
+static void boundaries(void)
+{
+    big_boundary();
+    if (set.phases != NULL)
+        phase_boundary();
+    if (set.accounts != NULL)
+        account_boundary();
+    int phase = set.bound > JUDGE_BOUNDS && set.bound <= JUDGE_BOUNDS + PHASE_BOUNDS;
+    if (set.bound > JUDGE_BOUNDS + PHASE_BOUNDS + ACCOUNT_BOUNDS || (phase && set.phases == NULL) ||
+        (set.bound > JUDGE_BOUNDS + PHASE_BOUNDS && set.accounts == NULL))
+        outcome(0, "--bound", "there is no such run");
 }
 
 int main(int argc, char **argv)
@@ -245,15 +273,13 @@ int main(int argc, char **argv)
     }
     failing_input(&g);
     failing_output(&g);
-    big_random();
+    big_random(30);
     big_memory();
     if (set.phases != NULL)
         phase_faults(&g);
-    big_boundary();
-    if (set.phases != NULL)
-        phase_boundary();
-    if (set.bound > JUDGE_BOUNDS + (set.phases != NULL ? PHASE_BOUNDS : 0))
-        outcome(0, "--bound", "there is no such run");
+    if (set.accounts != NULL)
+        account_faults(&g);
+    boundaries();
     printf("faults: %lu passed, %lu failed\n", passed, failed);
     return failed > 0;
 }

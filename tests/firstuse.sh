@@ -8,7 +8,7 @@ made_up() {
     mkdir -p "$tree/crates/low" "$kit/bin" "$library"
     cp -R "$spur" "$root/command" "$tree"
     printf '%s\n' '# NAME: what it stands on' 'low:' 'high: low' 'beside: low' 'apart: low' 'spurjudge: high beside low io' \
-        'spurphases: high low io' >"$tree/crates.txt"
+        'spurphases: high low io' 'spuraccounts: low io' >"$tree/crates.txt"
     cat >"$kit/bin/rt" <<'RT'
 #!/bin/sh
 case $1 in
@@ -40,6 +40,9 @@ there() { # VARIABLE=VALUE..
 }
 there_phases() { # WORDS..
     env PATH="$kit/bin:$PATH" KIT="$kit" SAYS="$says" "$tree/spur" phases "$@"
+}
+there_accounts() { # VARIABLE=VALUE..
+    env PATH="$kit/bin:$PATH" KIT="$kit" "$@" "$tree/spur" accounts "$boot"
 }
 missing() { env PATH="$kit/bin:$PATH" KIT="$kit" "$tree/spur" judge "$work/none.rec"; }
 
@@ -77,6 +80,24 @@ complete' '' there_phases "$boot" 1/1
     expect 'nearly a boot report'"'"'s verdict' 3 'complete ' 'spur: *verdict*' there_phases "$boot" 1/1
 }
 
+# The same of the accounts, whose verdict is their second line; without all sixteen lines behind it the program has ended half way.
+building_accounts() {
+    lines=$(with_slots "$nothing")
+    expect 'accounts: first use' 0 "$lines" 'spur: building spuraccounts, with its proofs
+spur: proving low
+spur: proving spuraccounts' there_accounts SAYS="$lines\\n"
+    expect 'accounts: second use' 0 "$lines" '' there_accounts SAYS="$lines\\n"
+    lines=$(with_slots "$breaks")
+    expect 'accounts: a breach' 1 "$lines" '' there_accounts SAYS="$lines\\n"
+    expect 'accounts: refused alone' 2 'refused 3' '' there_accounts SAYS='refused 3\n'
+    expect 'accounts: a program that says nothing' 3 '' 'spur: *verdict (status 0)' there_accounts SAYS=
+    lines="$nothing
+slot 0 starts 0 busy 0"
+    expect 'accounts: a program that ends half way' 3 "$lines" 'spur: *verdict (status 139)' there_accounts SAYS="$lines\\n" ENDS=SEGV
+    lines=$(with_slots "$(printf '%s' "$nothing" | sed 's/conforming/complete/')")
+    expect 'accounts: the verdict complete isn'"'"'t theirs' 3 "$lines" 'spur: *verdict*' there_accounts SAYS="$lines\\n"
+}
+
 # A file on a terminal, of which the first 8,192 bytes are gone when the command begins; the program reads 16,384 and pauses.
 file_on_terminal() {
     # shellcheck disable=SC2016
@@ -92,6 +113,7 @@ first_use() {
     made_up
     building
     building_phases
+    building_accounts
     if [ -r /proc/self/fdinfo/0 ] && script -qec true /dev/null </dev/null >/dev/null 2>&1; then
         file_on_terminal
     else

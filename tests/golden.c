@@ -1,8 +1,8 @@
 /* Golden cases: 01's checked examples with answers written down by hand, not by the model, and
-   small recordings for each rule with a near twin that conforms, for what a breach tells, and for
-   boot reports.
+   small recordings for each rule with a near twin that conforms, for what a breach tells, for boot
+   reports and for accounts.
 
-   golden [--judge COMMAND] [--calls COMMAND] [--phases COMMAND] */
+   golden [--judge COMMAND] [--calls COMMAND] [--phases COMMAND] [--accounts COMMAND] */
 #define _DEFAULT_SOURCE 1
 #include <stdio.h>
 #include <stdlib.h>
@@ -238,6 +238,7 @@ static void through_calls(const char *command)
     cycles();
     cache();
     golden_breach_calls();
+    golden_account_calls();
     for (size_t i = 0; i < count; i++)
         buffer_add(&in, steps[i].call, CALL);
     run_bytes(command, in.bytes, in.len, feed, 60, &r);
@@ -290,6 +291,8 @@ int main(int argc, char **argv)
             through_calls(argv[i + 1]);
         else if (strcmp(argv[i], "--phases") == 0)
             golden_phases(argv[i + 1]);
+        else if (strcmp(argv[i], "--accounts") == 0)
+            golden_accounts(argv[i + 1]);
         else
             break;
     }

@@ -12,6 +12,8 @@ size_t golden_tell(const char *words, uint8_t *bytes);
 struct judged {
     const char *name, *records, *totals, *verdict;
 };
+/* The two lines of the judging program. */
+void golden_text(const char *totals, const char *verdict, char *text);
 void golden_judged(const char *command, const struct judged *cases, size_t count);
 
 /* A call and the bytes of its answer that the paper settles. */
@@ -22,9 +24,17 @@ struct step {
 struct step *call(const char *name, int op, int refusal);
 void put(uint8_t *b, int at, int bytes, uint64_t v);
 void expect(struct step *s, int at, int bytes, uint64_t v);
+/* Puts numbers, in decimal, one behind the other in fields of so many bytes. */
+void golden_fields(const char *numbers, uint8_t *bytes, int at, const int *widths, int count);
+/* The answer of a judging: its refusal, rule, kind, record and span at the breach, and the totals. */
+void golden_expect_judging(struct step *s, const char *answer);
+/* The words of a call that sets something: 19, 21, 22 or 25. */
+void golden_setting(struct step *s, const char *words);
 
 void golden_rules(const char *command);
 void golden_breaches(const char *command);
 void golden_breach_calls(void);
 void golden_phases(const char *program);
+void golden_accounts(const char *program);
+void golden_account_calls(void);
 #endif

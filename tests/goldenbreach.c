@@ -242,8 +242,7 @@ static const struct {
     {"13 behind a gap", 20, "2 t", "0 13 0 1 2  1 0 0 0 0 1", 0},
 };
 
-/* Puts numbers, in decimal, one behind the other in fields of so many bytes. */
-static void fields(const char *numbers, uint8_t *bytes, int at, const int *widths, int count)
+void golden_fields(const char *numbers, uint8_t *bytes, int at, const int *widths, int count)
 {
     for (int i = 0, n; i < count; i++, numbers += n) {
         unsigned long long v;
@@ -254,8 +253,8 @@ static void fields(const char *numbers, uint8_t *bytes, int at, const int *width
     }
 }
 
-/* The numbers of an answer of 20 are told in another order than its bytes have them. */
-static void expect_judging(struct step *s, const char *answer)
+/* The numbers are told in another order than the answer's bytes have them. */
+void golden_expect_judging(struct step *s, const char *answer)
 {
     unsigned long long n[11] = {0};
     sscanf(answer, "%llu %llu %llu %llu %llu %llu %llu %llu %llu %llu %llu", &n[0], &n[1], &n[2],
@@ -274,20 +273,27 @@ static void expect_judging(struct step *s, const char *answer)
     expect(s, 32, 8, n[4]);
 }
 
+void golden_setting(struct step *s, const char *words)
+{
+    static const int tally[] = {4, 8, 4, 4, 4}, judge[] = {1, 1, 2, 1, 1, 1, 1}, limit[] = {1},
+                     entry[] = {1, 4, 8};
+    switch (s->call[0]) {
+    case 19: golden_fields(words, s->call, 1, limit, 1); break;
+    case 21: golden_fields(words, s->call, 1, tally, 5); break;
+    case 22: golden_fields(words, s->call, 1, judge, 7); break;
+    case 25: golden_fields(words, s->call, 1, entry, 3); break;
+    }
+}
+
 void golden_breach_calls(void)
 {
-    static const int tally[] = {4, 8, 4, 4, 4}, judge[] = {1, 1, 2, 1, 1, 1, 1}, limit[] = {1};
     for (size_t i = 0; i < sizeof calls / sizeof calls[0]; i++) {
         struct step *s = call(calls[i].name, calls[i].op, 0);
         if (calls[i].op == 20) {
             s->call[1] = (uint8_t)(golden_tell(calls[i].words, s->call + 2) - (size_t)calls[i].less);
-            expect_judging(s, calls[i].answer);
-        } else if (calls[i].op == 21) {
-            fields(calls[i].words, s->call, 1, tally, 5);
-        } else if (calls[i].op == 22) {
-            fields(calls[i].words, s->call, 1, judge, 7);
+            golden_expect_judging(s, calls[i].answer);
         } else {
-            fields(calls[i].words, s->call, 1, limit, 1);
+            golden_setting(s, calls[i].words);
         }
     }
 }

@@ -117,7 +117,7 @@ size_t golden_tell(const char *words, uint8_t *bytes)
     return len;
 }
 
-static void text_of(const char *totals, const char *verdict, char *text)
+void golden_text(const char *totals, const char *verdict, char *text)
 {
     unsigned long long n[6];
     sscanf(totals, "%llu %llu %llu %llu %llu %llu", &n[0], &n[1], &n[2], &n[3], &n[4], &n[5]);
@@ -141,9 +141,9 @@ static void rule_11(const char *command)
                  at + 2);
     }
     size_t len = golden_tell(words, bytes);
-    text_of("50 49 16 16 0 0", "breach rule 11 record 50 span 50", text);
+    golden_text("50 49 16 16 0 0", "breach rule 11 record 50 span 50", text);
     golden_recording(command, "11", bytes, len, text);
-    text_of("50 49 16 16 0 0", "conforming", text);
+    golden_text("50 49 16 16 0 0", "conforming", text);
     golden_recording(command, "11, twin", bytes, 50 * RECORD, text);
 }
 
@@ -153,7 +153,7 @@ void golden_judged(const char *command, const struct judged *list, size_t count)
     char text[TEXT];
     for (size_t i = 0; i < count; i++) {
         size_t len = golden_tell(list[i].records, bytes);
-        text_of(list[i].totals, list[i].verdict, text);
+        golden_text(list[i].totals, list[i].verdict, text);
         golden_recording(command, list[i].name, bytes, len, text);
     }
 }

@@ -1,5 +1,6 @@
 /* The judge of recordings (01, "The judge"; 02, wish 2). Each rule is worked out by itself from the
-   state before the record and the record; the lowest broken one is told. */
+   state before the record and the record; the lowest broken one is told. For the accounts of wish 3
+   the state keeps the owner's slot and how long the open transfer has been busy. */
 #include <stdio.h>
 #include "spur.h"
 
@@ -12,15 +13,20 @@ int judge_fresh(struct judge *j, unsigned limit)
 }
 
 /* The bounds for refusal 5: exactly the paper's list. */
+int tally_bounds(const struct tally *t)
+{
+    if (t->span > ((uint64_t)1 << 31) * t->records)
+        return 0;
+    return t->starts <= t->records && t->acks <= t->records && t->aborted <= t->records;
+}
+
 int judge_bounds(const struct judge *j, const struct tally *t)
 {
     if (j->limit < 1 || j->limit > 16 || j->turn > j->limit || j->arb > 15)
         return 0;
     if (j->open && (j->age > WATCHDOG || j->words < 1 || j->words > 16 || j->strobes >= j->words))
         return 0;
-    if (t->span > ((uint64_t)1 << 31) * t->records)
-        return 0;
-    return t->starts <= t->records && t->acks <= t->records && t->aborted <= t->records;
+    return tally_bounds(t);
 }
 
 /* What a record is, seen from the state before it. */
@@ -138,6 +144,7 @@ static void take_wave(struct judge *j, const struct record *r, const struct view
         j->arb = r->arb;
         j->since = 0;
         j->started = 1;
+        j->owner = r->arb;
     } else if (j->turn > 0 && j->since < 3) {
         j->since++;
     }
@@ -161,13 +168,16 @@ static void take_transfer(struct judge *j, struct tally *t, const struct record 
         code_decode(&op, r->tm1, r->tm0, r->ad);
         j->open = 1;
         j->age = 0;
+        j->busy = 1;
         j->words = (uint8_t)code_words(op.unit);
         j->strobes = 0;
     } else if (r->ack && !r->start) {
         j->open = j->words = j->strobes = 0;
         j->age = 0;
+        j->busy = 0;
     } else if (j->open) {
         j->age = (uint16_t)v->age;
+        j->busy += v->diff;
         if (j->words > 1 && r->tm0)
             j->strobes++;
     }

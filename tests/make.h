@@ -25,6 +25,7 @@ struct maker {
     struct judge j;
     struct tally t;
     struct rng *g;
+    struct entry stepped[SLOTS]; /* who used the simulated bus, by the stepper's answers */
 };
 void maker_start(struct maker *m, struct rng *g, unsigned limit);
 /* Adds the record if it breaks no rule, and gives the rules that it breaks. */
@@ -36,6 +37,8 @@ void record_spare_write(const struct record *r, unsigned spare, uint8_t *bytes);
 void traffic_bus(struct maker *m, size_t records);
 void traffic_boot(struct maker *m, size_t records);
 void traffic_wild(struct maker *m, size_t records);
+/* Made for the accounts; with late aborts, so that a slot may be busy for 2^32 cycles or more. */
+void traffic_owners(struct maker *m, size_t records, int late);
 void wild_propose(struct maker *m, struct record *r, unsigned *spare, unsigned chaos);
 int wild_setup(struct maker *m, int rule); /* brings the judge near the rule; 1 if it could */
 int wild_early(struct maker *m, int kind); /* near the kind of rule 8 */
@@ -50,11 +53,12 @@ uint32_t damage(struct maker *m, int rule, int kind);
 int never_both(const struct buffer *in, unsigned limit);
 
 /* Calls for the driver program, by subject. */
-enum subject { CODES, RECORDS, BUS, CACHE, JUDGE, ANY, EVERY_CODE, SUBJECTS };
+enum subject { CODES, RECORDS, BUS, CACHE, JUDGE, ACCOUNTS, ANY, EVERY_CODE, SUBJECTS };
 extern const char *const subject_names[SUBJECTS];
 void make_calls(struct buffer *out, struct rng *g, enum subject s, size_t calls);
 void calls_bus(struct buffer *out, struct rng *g, size_t calls);
 void calls_cache(struct buffer *out, struct rng *g, size_t calls);
-void calls_judge(struct buffer *out, struct rng *g, size_t calls);
+/* So many in a hundred of the judgings have an account. */
+void calls_judge(struct buffer *out, struct rng *g, size_t calls, uint32_t accounts);
 
 #endif

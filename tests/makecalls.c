@@ -1,8 +1,10 @@
 /* Writes a list of calls for the driver program to standard output:
 
-   makecalls mixed CALLS SEED     so many or a few more for each of codes, records, bus, cache, judge
+   makecalls mixed CALLS SEED     so many or a few more for each of codes, records, bus, cache, judge,
+                                  accounts
    makecalls damaged COUNT SEED   for each rule, and each kind of rule 8, so many recordings that
-                                  break it first, each to a fresh judge, three records a call
+                                  break it first, each to a fresh judge, three records a call;
+                                  every other with an account, whose sixteen entries are asked for
 
    A call whose answer the paper leaves to the build is left out, so every answer may be compared. */
 #include <stdio.h>
@@ -12,7 +14,7 @@
 
 static void mixed(struct buffer *all, struct rng *g, unsigned long calls)
 {
-    static const enum subject subjects[] = {CODES, RECORDS, BUS, CACHE, JUDGE};
+    static const enum subject subjects[] = {CODES, RECORDS, BUS, CACHE, JUDGE, ACCOUNTS};
     for (size_t i = 0; i < sizeof subjects / sizeof subjects[0]; i++) {
         struct buffer one = {0};
         make_calls(&one, g, subjects[i], calls);
@@ -21,7 +23,7 @@ static void mixed(struct buffer *all, struct rng *g, unsigned long calls)
     }
 }
 
-static void damaged(struct buffer *all, struct rng *g, int rule, int kind)
+static void damaged(struct buffer *all, struct rng *g, int rule, int kind, int account)
 {
     struct maker m;
     maker_start(&m, g, 16);
@@ -29,10 +31,12 @@ static void damaged(struct buffer *all, struct rng *g, int rule, int kind)
     buffer_add(all, (const uint8_t[CALL]){19, 16}, CALL);
     for (size_t at = 0; at < m.out.len; at += 3 * RECORD) {
         size_t n = m.out.len - at < 3 * RECORD ? m.out.len - at : 3 * RECORD;
-        uint8_t call[CALL] = {20, (uint8_t)n};
+        uint8_t call[CALL] = {account ? 23 : 20, (uint8_t)n, [50] = SLOTS};
         memcpy(call + 2, m.out.bytes + at, n);
         buffer_add(all, call, CALL);
     }
+    for (uint8_t slot = 0; account && slot < SLOTS; slot++)
+        buffer_add(all, (const uint8_t[CALL]){24, slot, SLOTS}, CALL);
     buffer_free(&m.out);
 }
 
@@ -48,7 +52,7 @@ int main(int argc, char **argv)
         for (unsigned long i = 0; i < count; i++)
             for (int rule = 1; rule <= 13; rule++)
                 for (int kind = rule == 8; kind < (rule == 8 ? KINDS : 1); kind++)
-                    damaged(&all, &g, rule, kind);
+                    damaged(&all, &g, rule, kind, i % 2);
     } else {
         fprintf(stderr, "makecalls mixed CALLS SEED | damaged COUNT SEED\n");
         return 2;

@@ -10,6 +10,8 @@
                                  with CROWD 0 each is near to where a read of 1,000 bytes ends
    makerec sound RECORDS SEED    simulated traffic of any kind that conforms
    makerec wild RECORDS SEED     whatever conforms
+   makerec owners RECORDS SEED   made for the accounts (02, wish 3), conforming
+   makerec late RECORDS SEED     the same, with a slot busy for 2^32 cycles or more
    makerec damage RULE SEED      a recording whose first breach is of the rule */
 #define _DEFAULT_SOURCE 1
 #include <stdio.h>
@@ -169,13 +171,16 @@ int main(int argc, char **argv)
     } else if (strcmp(what, "wild") == 0) {
         g.state = b;
         traffic_wild(&m, a);
+    } else if (strcmp(what, "owners") == 0 || strcmp(what, "late") == 0) {
+        g.state = b;
+        traffic_owners(&m, a, what[0] == 'l');
     } else if (strcmp(what, "damage") == 0 && rule > 0) {
         g.state = b;
         damage(&m, rule, kind);
     } else {
         fprintf(stderr, "makerec boot RECORDS | breach RECORDS RULE | phases RECORDS | "
                         "marked CROWD SEED S/N .. | sound RECORDS SEED | wild RECORDS SEED | "
-                        "damage RULE SEED\n");
+                        "owners RECORDS SEED | late RECORDS SEED | damage RULE SEED\n");
         return 2;
     }
     if (fwrite(m.out.bytes, 1, m.out.len, stdout) != m.out.len || fflush(stdout) != 0) {

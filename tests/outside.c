@@ -1,14 +1,15 @@
 /* The outside test: generated recordings and calls, every answer compared with the model's.
 
-   outside [--judge COMMAND] [--calls COMMAND] [--count N] [--seed S] [--status] [--seconds T]
-           [--first] [--unshrunk]
+   outside [--judge COMMAND] [--calls COMMAND] [--accounts COMMAND] [--count N] [--seed S] [--status]
+           [--seconds T] [--first] [--unshrunk]
 
    A command is one string for the shell. Without --seed there are two passes, with the fixed
    seed and with a fresh one. N is the share: N damaged recordings for each of the thirteen rules
    (N for each of rule 8's three kinds), 5 N sound ones and N/10 lists of 3,000 calls for each subject
-   (twice as many for the bus and the judge), in each pass; with the fixed seed also every code and
-   every contest. With --status the
-   judging program's exit status is to be 0, 1 or 2 by its verdict; with --first the run ends at
+   (twice as many for the bus, the judge and the accounts), in each pass; with the fixed seed also
+   every code and every contest. The accounts' program gets every fifth of the judging program's
+   recordings, or all where that isn't given, and N that are made for it. With --status the
+   exit status of either is to be 0, 1 or 2 by its verdict; with --first the run ends at
    the first disagreement; with --unshrunk it is told as it was found. */
 #define _DEFAULT_SOURCE 1
 #include <stdio.h>
@@ -16,16 +17,18 @@
 #include <string.h>
 #include <time.h>
 #include <unistd.h>
+#include "accountsmet.h"
 #include "compare.h"
 
-enum { CALLS_A_LIST = 3000, FIXED_SEED = 19861023, MOST_REPORTS = 5, MOST_LINES = 30, ENOUGH = 10 };
+enum { CALLS_A_LIST = 3000, FIXED_SEED = 19861023, MOST_REPORTS = 5, MOST_LINES = 30, ENOUGH = 10,
+       SHARED = 5 }; /* of the recordings one in so many is the accounts' program's too */
 
 static struct {
-    const char *judge, *calls;
+    const char *judge, *calls, *accounts;
     int count, statuses, seconds, first, unshrunk;
 } options = {.count = 50, .seconds = 60};
 static unsigned long passed, failed;
-static unsigned long broken_first[14], kinds[KINDS], wrapped, far, at_once, recordings;
+static unsigned long broken_first[14], kinds[KINDS], wrapped, far, at_once, recordings, counted;
 
 static void report(const struct subject_program *p, struct buffer *in, const char *what,
                    unsigned long seed)
@@ -62,17 +65,19 @@ static struct feed some_feed(struct rng *g, size_t len)
     return f;
 }
 
-static void one_recording(struct rng *g, struct buffer *in, const char *what, unsigned long seed)
+static void tear(struct rng *g, struct buffer *in)
+{
+    uint8_t piece[15];
+    for (int i = 0; i < 15; i++)
+        piece[i] = (uint8_t)rng_next(g);
+    buffer_add(in, piece, 1 + rng_below(g, 15));
+}
+
+static void judged(struct rng *g, struct buffer *in, const char *what, unsigned long seed)
 {
     struct subject_program p = {.command = options.judge, .unit = RECORD,
                                 .seconds = options.seconds, .statuses = options.statuses};
     p.feed = some_feed(g, in->len);
-    if (rng_chance(g, 10)) { /* a torn end */
-        uint8_t piece[15];
-        for (int i = 0; i < 15; i++)
-            piece[i] = (uint8_t)rng_next(g);
-        buffer_add(in, piece, 1 + rng_below(g, 15));
-    }
     recordings++;
     if (!never_both(in, NO_LIMIT_GIVEN)) {
         printf("a START breaks 8b and 8c at once: %s, seed %lu\n", what, seed);
@@ -82,6 +87,44 @@ static void one_recording(struct rng *g, struct buffer *in, const char *what, un
         passed++;
     else
         report(&p, in, what, seed);
+}
+
+static int accounts_of(const void *with, const uint8_t *bytes, size_t len, char *text)
+{
+    (void)with;
+    return account_program(NO_LIMIT_GIVEN, bytes, len, text);
+}
+
+static void accounted(struct rng *g, struct buffer *in, const char *what, unsigned long seed)
+{
+    struct subject_program p = {.command = options.accounts, .unit = RECORD,
+                                .seconds = options.seconds, .statuses = options.statuses,
+                                .model = accounts_of};
+    char told[100];
+    p.feed = some_feed(g, in->len);
+    account_meet(in, NO_LIMIT_GIVEN);
+    snprintf(told, sizeof told, "accounts, %s", what);
+    counted++;
+    if (disagree(&p, in, NULL) < 0)
+        passed++;
+    else
+        report(&p, in, told, seed);
+}
+
+/* Gives the recording, some with a torn end, to the programs; a disagreement makes it small. */
+static void one_recording(struct rng *g, struct buffer *in, const char *what, unsigned long seed)
+{
+    static unsigned turn;
+    if (rng_chance(g, 10))
+        tear(g, in);
+    int account = options.accounts != NULL && (options.judge == NULL || turn++ % SHARED == 0);
+    struct buffer kept = {0};
+    buffer_add(&kept, in->bytes, in->len);
+    if (options.judge != NULL)
+        judged(g, in, what, seed);
+    if (account)
+        accounted(g, &kept, what, seed);
+    buffer_free(&kept);
 }
 
 /* Counts what a damaged recording's breach is, by the model, which must name what was meant. */
@@ -164,12 +207,36 @@ static void long_damaged(struct rng *g, unsigned long seed)
     }
 }
 
+/* Recordings made for the accounts, some of them broken behind: the entries are of what came before. */
+static void owners(struct rng *g, unsigned long seed)
+{
+    for (int i = 0; i < options.count; i++) {
+        struct maker m;
+        int late = i % 8 == 0;
+        maker_start(&m, g, NO_LIMIT_GIVEN);
+        traffic_owners(&m, (late ? 200 : 0) + rng_below(g, rng_chance(g, 10) ? 3000 : 200), late);
+        if (rng_chance(g, 30))
+            damage(&m, 1 + (int)rng_below(g, 13), 0);
+        if (rng_chance(g, 10))
+            tear(g, &m.out);
+        accounted(g, &m.out, "owners' recording", seed);
+        buffer_free(&m.out);
+    }
+}
+
+/* The lists of calls on a subject, for some of each. */
+static int rounds_of(int subject, int some, unsigned long seed)
+{
+    if (subject == EVERY_CODE)
+        return seed == FIXED_SEED;
+    return subject == BUS || subject == JUDGE || subject == ACCOUNTS ? 2 * some : some;
+}
+
 static void lists(struct rng *g, unsigned long seed)
 {
     int some = options.count / 10 > 0 ? options.count / 10 : 1;
     for (int s = 0; s < SUBJECTS; s++) {
-        int rounds = s == EVERY_CODE ? seed == FIXED_SEED : s == BUS || s == JUDGE ? 2 * some : some;
-        for (int i = 0; i < rounds; i++) {
+        for (int i = rounds_of(s, some, seed); i > 0; i--) {
             struct subject_program p = {.command = options.calls, .unit = CALL,
                                         .seconds = options.seconds};
             struct buffer in = {0};
@@ -197,11 +264,13 @@ static void pass(unsigned long seed)
     struct rng g = {seed};
     printf("seed %lu\n", seed);
     fflush(stdout);
-    if (options.judge != NULL) {
+    if (options.judge != NULL || options.accounts != NULL) {
         damaged(&g, seed);
         sound(&g, seed);
         long_damaged(&g, seed);
     }
+    if (options.accounts != NULL)
+        owners(&g, seed);
     if (options.calls != NULL)
         lists(&g, seed);
 }
@@ -239,7 +308,7 @@ static void calls_met(void)
     printf("calls %lu, of which not settled by the paper %lu\n", covered.calls + covered.skipped,
            covered.skipped);
     printf("answers by operation and refusal:\n");
-    for (int op = 1; op < 23; op++) {
+    for (int op = 1; op < OPERATIONS; op++) {
         printf("  %2d: %lu", op, covered.by_op[op]);
         for (int no = 1; no < 9; no++)
             if (covered.op_refusal[op][no] > 0)
@@ -258,10 +327,21 @@ static void calls_met(void)
     met("calls", covered.kinds, covered.far);
 }
 
+static void accounts_met(void)
+{
+    printf("recordings for the accounts %lu\n", counted);
+    if (account_met() || options.count < ENOUGH)
+        return;
+    printf("FAILED: something that the accounts count was never met\n");
+    failed++;
+}
+
 static void summary(void)
 {
     if (options.judge != NULL)
         recordings_met();
+    if (options.accounts != NULL)
+        accounts_met();
     if (options.calls != NULL)
         calls_met();
     printf("outside: %lu passed, %lu failed\n", passed, failed);
@@ -269,8 +349,8 @@ static void summary(void)
 
 static void usage(void)
 {
-    fprintf(stderr, "outside [--judge COMMAND] [--calls COMMAND] [--count N] [--seed S] "
-                    "[--status] [--seconds T] [--first] [--unshrunk]\n");
+    fprintf(stderr, "outside [--judge COMMAND] [--calls COMMAND] [--accounts COMMAND] [--count N] "
+                    "[--seed S] [--status] [--seconds T] [--first] [--unshrunk]\n");
     exit(2);
 }
 
@@ -293,6 +373,8 @@ int main(int argc, char **argv)
             options.judge = argv[++i];
         else if (strcmp(argv[i], "--calls") == 0)
             options.calls = argv[++i];
+        else if (strcmp(argv[i], "--accounts") == 0)
+            options.accounts = argv[++i];
         else if (strcmp(argv[i], "--count") == 0)
             options.count = atoi(argv[++i]);
         else if (strcmp(argv[i], "--seconds") == 0)
@@ -303,7 +385,8 @@ int main(int argc, char **argv)
         } else
             usage();
     }
-    if ((options.judge == NULL && options.calls == NULL) || options.count < 1)
+    if ((options.judge == NULL && options.calls == NULL && options.accounts == NULL) ||
+        options.count < 1)
         usage();
     if (given) {
         pass(seed);

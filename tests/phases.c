@@ -39,10 +39,11 @@ void phases_outcome(int good)
     exit(1);
 }
 
-static void expected(const void *with, const uint8_t *bytes, size_t len, char *text)
+static int expected(const void *with, const uint8_t *bytes, size_t len, char *text)
 {
     const struct asked *a = with;
     report_program(a->limit, a->marks, a->count, bytes, len, text);
+    return 0;
 }
 
 /* The command with its words; a number may have zeros in front. */

@@ -8,7 +8,8 @@ out=${1:-$(mktemp -d)}
 count=${COUNT:-30}
 sh "$here/build.sh" "$out" || exit 2
 out=$(cd "$out" && pwd)
-"$out/outside" --judge "$out/modeljudge" --calls "$out/modelcalls" --count "$count" --seed 1 |
+"$out/outside" --judge "$out/modeljudge" --calls "$out/modelcalls" \
+    --accounts "$out/modelaccounts" --count "$count" --seed 1 |
     tail -n 1 | sed 's/^/without a bug: /'
 "$out/phases" --program "$out/modelphases" --count "$count" --seed 1 |
     tail -n 1 | sed 's/^/without a bug: /'
@@ -28,9 +29,9 @@ plant() { # file, old, new: a copy of the file with the first old replaced, and 
         { echo "not found in $1: $2"; exit 2; }
     cd "$out/bug/obj" || exit 2
     ${CC:-cc} -O2 -std=c11 -w -I"$here" -c -o "${1%.c}.o" "../$1" || exit 2
-    for p in modelcalls modeljudge; do
-        ${CC:-cc} -o "../$p" $p.o record.o codes.o contest.o bus.o cache.o judging.o calls.o ||
-            exit 2
+    for p in modelcalls modeljudge modelaccounts; do
+        ${CC:-cc} -o "../$p" $p.o record.o codes.o contest.o bus.o cache.o judging.o accounts.o \
+            calls.o || exit 2
     done
     ${CC:-cc} -o ../modelphases modelphases.o marks.o record.o codes.o judging.o || exit 2
 }
@@ -47,14 +48,19 @@ by_phases() { # file
 }
 
 by_others() { # file
-    "$out/outside" --judge "$out/bug/modeljudge" --calls "$out/bug/modelcalls" --count "$count" \
-        --seed 1 --first $([ -z "$SHOW" ] && echo --unshrunk) >"$out/found" 2>&1 || by=outside
-    "$out/golden" --judge "$out/bug/modeljudge" --calls "$out/bug/modelcalls" >/dev/null 2>&1 ||
-        by="$by golden"
+    "$out/outside" --judge "$out/bug/modeljudge" --calls "$out/bug/modelcalls" \
+        --accounts "$out/bug/modelaccounts" --count "$count" --seed 1 --first \
+        $([ -z "$SHOW" ] && echo --unshrunk) >"$out/found" 2>&1 || by=outside
+    "$out/golden" --judge "$out/bug/modeljudge" --calls "$out/bug/modelcalls" \
+        --accounts "$out/bug/modelaccounts" >/dev/null 2>&1 || by="$by golden"
     case $1 in modeljudge.c)
         "$out/faults" --judge "$out/bug/modeljudge" --megabytes 1 >/dev/null 2>&1 ||
             by="$by faults"
         "$out/limits" --judge "$out/bug/modeljudge" >/dev/null 2>&1 || by="$by limits" ;;
+    modelaccounts.c)
+        "$out/faults" --judge "$out/modeljudge" --accounts "$out/bug/modelaccounts" --megabytes 1 \
+            >/dev/null 2>&1 || by="$by faults"
+        "$out/limits" --accounts "$out/bug/modelaccounts" >/dev/null 2>&1 || by="$by limits" ;;
     esac
 }
 

@@ -3,8 +3,8 @@
 # aside, and counts those that show: tests/planted_library.sh [OUTDIR]
 # A program with no proof is never built to a file, so the copy is run from source by `rt try`, over
 # calls and recordings of the outside tests' makers, and what it writes is held to what the model
-# answers. A bug in the boot report is looked for by spurphases, one in what only spurjudge uses
-# besides by spurjudge, any other by spurcalls.
+# answers. A bug in the boot report is looked for by spurphases, one in the accounts by spuraccounts
+# and spurcalls, one in what only spurjudge uses besides by spurjudge, any other by spurcalls.
 # LISTS is the number of long lists of 3,000 calls for each of five subjects (5), SEED is added to
 # the seeds (0), SHOW=1 shows what `rt try` said, ONLY is a piece of the description of those to be
 # planted.
@@ -103,6 +103,31 @@ made 7 0 0 16/1 $marks 3/3
 made 8 0 17 $marks 3/16
 made 9 0 16 $marks 3-3
 
+# Who used the bus: recordings made for the accounts, one with a slot busy for 2^32 cycles or more,
+# with a torn end, with a breach; the sample; the hold limit beside the recording, or none.
+accounts=0
+used() { # the limit, or nothing; the recording on standard input
+    accounts=$((accounts + 1))
+    cat >"$inputs/spuraccounts.$accounts" || exit 2
+    if [ $# -gt 0 ]; then printf '%s\n' "$1" >"$inputs/limit.$accounts" || exit 2; fi
+}
+owners() { # what, records or rule, seed
+    "$out/makerec" "$1" "$2" $((seed + $3)) >"$out/made" || exit 2
+}
+if [ -d "$here/../crates/spuraccounts" ]; then
+    owners owners 3000 1 && used <"$out/made"
+    owners late 300 2 && used 16 <"$out/made"
+    owners owners 1000 3 && printf torn >>"$out/made" && used <"$out/made"
+    owners sound 3000 4 && used 4 <"$out/made"
+    owners wild 2000 5 && used <"$out/made"
+    for rule in 4 5 8b 12; do
+        owners damage "$rule" 6 && used <"$out/made"
+    done
+    used 17 <"$out/made"
+    used x <"$out/made"
+    used <"$here/../samples/boot.rec"
+fi
+
 # Runs the program over its inputs: 0 where it writes what the model does, 1 at the first where it
 # doesn't, and then $where says where. All ways to run it have a say, but for an interpreter that
 # ran out of steps.
@@ -112,6 +137,11 @@ try() { # program
         case $1 in
         spurcalls) "$out/modelcalls" ;;
         spurjudge) "$out/modeljudge" ;;
+        spuraccounts)
+            words=$inputs/limit.${input##*.}
+            rm -f "$copy/crates/$1/args"
+            if [ -f "$words" ]; then cp "$words" "$copy/crates/$1/args" || exit 2; fi
+            "$out/modelaccounts" $(cat "$words" 2>/dev/null) 2>"$out/none" ;;
         *) cp "$words" "$copy/crates/$1/args" && "$out/modelphases" $(cat "$words") 2>"$out/none" ;;
         esac <"$input" >"$copy/crates/$1/stdout"
         cp "$input" "$copy/crates/$1/stdin" || exit 2
@@ -125,7 +155,7 @@ try() { # program
             echo "$1 could not be run"
             exit 2
         fi
-        where="recording ${input##*.}"
+        where="$1, recording ${input##*.}"
         if [ "$1" = spurcalls ]; then
             byte=$(sed -n '/^FAIL: the native/,$s/^on standard output, at byte \([0-9]*\).*/\1/p' \
                 "$out/said" | head -n 1)
@@ -140,12 +170,17 @@ try() { # program
 one() { # file, old, new, what
     edit "$1" "$2" "$3"
     planted=$((planted + 1))
-    program=spurcalls
+    programs=spurcalls shows=
     case $1 in
-    stream/* | printed/* | text/* | reading/* | spurjudge/*) program=spurjudge ;;
-    phases/* | phaselines/* | spurphases/*) program=spurphases ;;
+    stream/* | printed/* | text/* | reading/* | spurjudge/*) programs=spurjudge ;;
+    phases/* | phaselines/* | spurphases/*) programs=spurphases ;;
+    accountlines/* | spuraccounts/*) programs=spuraccounts ;;
+    account*/*) programs='spuraccounts spurcalls' ;;
     esac
-    if try "$program"; then
+    for program in $programs; do
+        try "$program" || { shows=1 && break; }
+    done
+    if [ -z "$shows" ]; then
         echo "MISSED: ${1%%/*}: $4"
     else
         caught=$((caught + 1))
@@ -155,7 +190,7 @@ one() { # file, old, new, what
     cp "$out/whole" "$copy/crates/$1"
 }
 
-for program in spurcalls spurjudge spurphases; do
+for program in spurcalls spurjudge spurphases $([ "$accounts" -eq 0 ] || echo spuraccounts); do
     try "$program" || {
         cut -c 1-200 "$out/said"
         echo "without a bug $program differs from the model: $where"
@@ -163,8 +198,8 @@ for program in spurcalls spurjudge spurphases; do
     }
 done
 calls=$(cat "$inputs"/spurcalls.* | wc -c)
-echo "without a bug: $((calls / 64)) calls, seven recordings and $reports boot reports," \
-    "all as the model answers"
+echo "without a bug: $((calls / 64)) calls, seven recordings, $reports boot reports and" \
+    "$accounts accounts, all as the model answers"
 while IFS= read -r file; do
     case $file in '#'* | '') continue ;; esac
     IFS= read -r old

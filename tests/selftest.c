@@ -1,13 +1,14 @@
 /* The model against itself: its judge against the rules said of the recording alone, on sound,
    wild and damaged recordings, none of which breaks 8b and 8c at once; the stepper's traffic against
-   the judge (the maker stops the program where that breaks a rule); and its boot report against a
-   second way.
+   the judge (the maker stops the program where that breaks a rule); its accounts and its boot report
+   against a second way.
 
    selftest [COUNT [SEED]] */
 #include <stdio.h>
 #include <stdlib.h>
 #include "lookback.h"
 #include "make.h"
+#include "selfaccounts.h"
 #include "selfmarks.h"
 
 enum { ENOUGH = 50 }; /* a count at which everything is to be met */
@@ -49,7 +50,8 @@ static void check(const struct maker *m, unsigned limit)
     kinds[v.kind]++;
     far += v.span >> 32 != 0;
     if (same_verdict(&v, &l.v) && same_tally(&t, &l.t) && j.open == l.open &&
-        t.starts == t.acks + t.aborted + j.open && never_both(&m->out, limit))
+        t.starts == t.acks + t.aborted + j.open && never_both(&m->out, limit) &&
+        selfaccounts_check(m->g, &m->out, limit, l.t.records))
         return;
     differ++;
     say("judge", &v, &t, j.open);
@@ -102,6 +104,7 @@ int main(int argc, char **argv)
             buffer_free(&m.out);
         }
     summary(count);
+    compared += selfaccounts(count, &g, &differ);
     compared += selfmarks(count, &g, &differ);
     printf("selftest: %lu passed, %lu failed\n", compared - differ, differ);
     return differ > 0 || compared == 0;

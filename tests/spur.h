@@ -77,9 +77,11 @@ struct judge {
     uint8_t has_stamp, rqst1, rqst2; /* RQST in the last record's cycle, and one before that */
     uint32_t stamp;
     uint8_t started;         /* a wave's START since the last reset */
+    uint8_t owner;           /* the slot that the last such START's ARB shows */
     uint8_t turn, arb, since; /* the wave's STARTs at its last ARB, 0 for none; cycles since */
     uint8_t open, words, strobes;
     uint16_t age;
+    uint32_t busy; /* cycles of the open transfer so far, its START's counted */
 };
 struct tally {
     uint32_t records;
@@ -97,6 +99,7 @@ struct verdict {
 };
 #define NO_BREACH ((struct verdict){0})
 int judge_fresh(struct judge *j, unsigned limit);
+int tally_bounds(const struct tally *t);
 int judge_bounds(const struct judge *j, const struct tally *t);
 uint32_t judge_broken(const struct judge *j, const struct record *r, unsigned spare);
 /* The kinds of rule 8 that the record breaks, bit k for kind k. */
@@ -114,8 +117,28 @@ int judge_program(unsigned limit, const uint8_t *bytes, size_t len, char *text);
 void judge_text(const struct tally *t, int open, struct verdict v, int refusal, char *text);
 void judge_breach_line(struct verdict v, char *text, size_t room);
 
+/* --- who used the bus (document 02, wish 3) --- */
+struct entry {
+    uint32_t starts;
+    uint64_t busy; /* START to ACK or abort, both ends counted */
+};
+/* What the record adds to its slot's entry, seen from the judge before it; it breaks no rule. */
+void account_take(struct entry *account, const struct judge *before, const struct record *r);
+/* As the judge's functions, with an account of so many entries beside the tally. */
+int account_bounds(const struct entry *e, const struct tally *t);
+struct verdict account_one(struct judge *j, struct tally *t, struct entry *account,
+                           const uint8_t *bytes);
+int account_recording(struct judge *j, struct tally *t, struct entry *account, size_t entries,
+                      const uint8_t *bytes, size_t len, struct verdict *v);
+int account_slot(const struct tally *t, const struct entry *account, size_t entries, unsigned slot,
+                 struct entry *e);
+/* The sixteen lines, and all that the program prints; ACCOUNT_TEXT is enough room for that. */
+enum { ACCOUNT_TEXT = TEXT + SLOTS * 64 };
+void account_lines(const struct entry *account, char *text, size_t room);
+int account_program(unsigned limit, const uint8_t *bytes, size_t len, char *text);
+
 /* --- the driver program's calls --- */
-enum { CALL = 64 };
+enum { CALL = 64, ENTRIES = 17 };
 struct driver {
     struct bus bus;
     struct judge judge;
@@ -123,8 +146,9 @@ struct driver {
     uint8_t states[65 * SLOTS];
     uint32_t copies[65 * SLOTS], memory[65];
     size_t nstates, ncopies, nmemory;
+    struct entry account[ENTRIES];
     /* Raw settings of the judge whose meaning the paper leaves to the build. */
-    int loose_turn, loose_age, unknown;
+    int loose_turn, loose_age, loose_owner, unknown;
 };
 void driver_start(struct driver *d);
 /* Gives 1 if the answer is settled by the paper, 0 if it isn't to be compared. */

@@ -21,6 +21,8 @@ struct sim {
     struct manner how;
     uint32_t stamp, last, walk;
     int any, silent;
+    uint8_t user;   /* the slot whose transfer is open */
+    uint32_t began; /* the stamp of its START */
 };
 
 /* The inter-cache lines are recorded but not judged. */
@@ -201,6 +203,19 @@ static void drive_reset(struct rng *g, struct record *r)
     noise(g, r);
 }
 
+/* Who used the bus (document 02, wish 3), by the stepper's answer and without a look at the lines. */
+static void use(struct maker *m, struct sim *s, const struct answer *a, int ended)
+{
+    if (ended)
+        m->stepped[s->user].busy += (uint32_t)(s->stamp - s->began) + (uint64_t)1;
+    if (!a->start)
+        return;
+    m->stepped[a->starter].starts++;
+    m->stepped[a->starter].busy += a->ack;
+    s->user = a->starter;
+    s->began = s->stamp;
+}
+
 static void one_cycle(struct maker *m, struct sim *s)
 {
     struct rng *g = m->g;
@@ -211,6 +226,7 @@ static void one_cycle(struct maker *m, struct sim *s)
     ask(s, g);
     event = slave(s, g, &status);
     bus_cycle(&s->bus, reset, event, status, s->nodes, SLOTS, &a);
+    use(m, s, &a, before.open && (reset || a.ack));
     if (reset)
         drive_reset(g, &r);
     else

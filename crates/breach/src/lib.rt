@@ -50,6 +50,7 @@ fn counts_of(transfer: Transfer) -> Counts
             words,
             strobes,
             age,
+            busy: _,
         } => Counts {
             words: words,
             strobes: strobes,
@@ -212,6 +213,7 @@ fn lowest_rule(judge: Judge, lines: Record, d: u32) -> Rule
     let one = asked(wave, d);
     let two = asked_twice(wave, d);
     let since = wave.since as u64 + d as u64;
+    let owner = wave.owner;
     let owed = codes::words_owed(lines.tm0, lines.ad);
     let odd = codes::parity(lines.ad);
     let within = turn_within(judge.limit, start, one, arb, wave.arb, wave.turn);
@@ -227,7 +229,7 @@ fn lowest_rule(judge: Judge, lines: Record, d: u32) -> Rule
     let r9 = first(request_kept(wave.rqst, d, lines.rqst, start), 9, r10);
     let r8c = first_kind(starts_apart(start, one, since), 3, r9);
     let r8b = first_kind(asked_long(start, one, two), 2, r8c);
-    let r8a = first_kind(parked_by_owner(start, one, wave.owned), 1, r8b);
+    let r8a = first_kind(parked_by_owner(start, one, rules::is_owned(owner)), 1, r8b);
     let r7 = first(code_known(start, ack, owed), 7, r8a);
     let r6 = first(attention_lines(start, ack, lines.tm1, lines.tm0), 6, r7);
     let r5 = first(ack_while_open(busy, start, ack), 5, r6);

@@ -50,7 +50,7 @@ fed-ended s [] e = refl
 fed-ended s (piece ∷ pieces) e = ap (λ (x : Stream). fedAll x pieces) (feed-ended s piece e) ∙ fed-ended s pieces e
 
 -- an input from the start
-abbrev inputState : ℕ → List ℕ → Stream
+abbrev pub inputState : ℕ → List ℕ → Stream
 inputState limit bytes = goneOn (freshJudge limit) zeroTally bytes
 
 fresh-is : (limit : ℕ) → freshStream limit ≡ inputState limit []
@@ -89,17 +89,17 @@ last-is past p bytes pe = by-test (eqb (p .rule) 0) (λ e. unbroken past pe (eqb
     unbroken false be e = last-going p bytes e (sym be)
 
 module _ (limit : ℕ) (low : 1 ≤ limit) (high : limit ≤ 16) where
-  state-bounds : (bytes : List ℕ) → streamBounds (inputState limit bytes) ≡ true
+  pub state-bounds : (bytes : List ℕ) → streamBounds (inputState limit bytes) ≡ true
   state-bounds bytes =
       let h = gone-sound (freshJudge limit) zeroTally bytes (fresh-sound limit low high) zero-sound (omega arith) in
       are-bounds (inputState limit bytes) (h .0) (h .1 .0) (h .1 .1) (gone-held (freshJudge limit) zeroTally bytes)
 
   -- the records judged are those of the definition, and the judge's call on them
-  ending-is : (bytes : List ℕ) → endingOf limit bytes ≡ endingWith bytes (outcomeIn (judgedOf (freshJudge limit) zeroTally bytes))
+  pub ending-is : (bytes : List ℕ) → endingOf limit bytes ≡ endingWith bytes (outcomeIn (judgedOf (freshJudge limit) zeroTally bytes))
   unfolding endingOf judgedIn takenIn
   ending-is bytes = ap (endingWith bytes) (outcome-taken bytes (freshJudge limit) zeroTally (fresh-sound limit low high) zero-sound (omega arith))
 
-  finish-is : (bytes : List ℕ) → finishOf (inputState limit bytes) ≡ endingOf limit bytes
+  pub finish-is : (bytes : List ℕ) → finishOf (inputState limit bytes) ≡ endingOf limit bytes
   unfolding finishOf goneOn
   finish-is bytes =
       let p : Progress = judgedOf (freshJudge limit) zeroTally bytes in

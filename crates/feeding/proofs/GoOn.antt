@@ -141,7 +141,7 @@ after-going p rest e = ap (λ (v : Verdict). stateWith (stopOf false v) (p .judg
 
 -- ---- piece after piece
 -- a state that waits for more holds the torn record's bytes
-feed-going : (j : Judge) (t : Tally) (rest y : List ℕ) → feedOf (stateWith Going j t rest) y ≡ goneOn j t (rest ++ y)
+pub feed-going : (j : Judge) (t : Tally) (rest y : List ℕ) → feedOf (stateWith Going j t rest) y ≡ goneOn j t (rest ++ y)
 unfolding feedOf padded
 feed-going j t rest y = ap (λ (l : List ℕ). goneOn j t (l ++ y)) (take-append-seam rest (replicate (16 - length rest) 0))
 

@@ -1,6 +1,6 @@
 -- Laws of the quick way: where its tests hold, the record keeps every rule and leaves the state that it gives. Assumes nothing.
 use Prim.Native.Nat.{ℕ, _+_, _≤_}
-use mathlib.Core.Bool.{Bool, true, false, not, cond, _&&_, _||_, false≢true, true≢false, and-false, and-true, or-false, or-true}
+use mathlib.Core.Bool.{Bool, true, false, not, cond, _&&_, _||_, false≢true, true≢false, and-false, and-true, or-true}
 use mathlib.Core.Path.{_≡_, refl, sym, ap, subst, _∙_}
 use native.Mathlib.Omega.{arith}
 use lib.Dec.{leb, ltb, eqb}
@@ -16,8 +16,10 @@ use Rattle.rules.specs.declared.Tally.{Tally}
 use Rattle.rules.specs.declared.Wave.{Wave}
 use Rattle.rules.specs.declared.Transfer.{Transfer}
 use Rattle.rules.specs.declared.Transfer.the-variants.{Idle, Open}
+use Rattle.rules.specs.declared.Owner.{Owner}
+use Rattle.rules.specs.declared.Owner.the-variants.{Slot}
 use Rattle.rules.specs.Rules.{strobe, rule5, rule6, rule9, rule10, rule11, rule12, rule13, rule13a, rule13b}
-use Rattle.rules.specs.State.{isOpen, openWords, openStrobes, openAge, agedOf, transferOf, askedOf, twiceOf, capped, waveOf, tallyOf}
+use Rattle.rules.specs.State.{isOpen, isOwned, openWords, openStrobes, openAge, agedOf, transferOf, askedOf, twiceOf, capped, waveOf, tallyOf}
 use Rattle.rules.specs.Run.{laterRules, from, stepOf}
 use Rattle.rules.proofs.Laws.{AllHold}
 use Rattle.rules.proofs.Ride.{capped-three}
@@ -35,8 +37,8 @@ implies-none true b e = absurd (true≢false e)
 implies-none false b e = refl
 
 -- ---- the wave
-wave-same : {r r′ p p′ o o′ : Bool} {s s′ a a′ t t′ : ℕ} → r ≡ r′ → p ≡ p′ → o ≡ o′ → s ≡ s′ → a ≡ a′ → t ≡ t′
-    → _≡_ {A = Wave} (record { rqst = r; prior = p; owned = o; since = s; arb = a; turn = t }) (record { rqst = r′; prior = p′; owned = o′; since = s′; arb = a′; turn = t′ })
+wave-same : {r r′ p p′ : Bool} {o o′ : Owner} {s s′ a a′ t t′ : ℕ} → r ≡ r′ → p ≡ p′ → o ≡ o′ → s ≡ s′ → a ≡ a′ → t ≡ t′
+    → _≡_ {A = Wave} (record { rqst = r; prior = p; owner = o; since = s; arb = a; turn = t }) (record { rqst = r′; prior = p′; owner = o′; since = s′; arb = a′; turn = t′ })
 wave-same e f g h i k = cc
 
 cap-one : (since d : ℕ) → since ≤ 3 → d ≡ 1 → capped (since + d) ≡ since + one (ltb since 3)
@@ -54,19 +56,16 @@ still-three since e = let l : ltb since 3 ≡ false = le-ltb since 3 (omega arit
 waited-is : (w : Wave) (rqst start : Bool) (arb d : ℕ) → WaveKept w → start ≡ false → requestHolds w rqst d ≡ true → waveOf w rqst start arb d ≡ waitedOf w rqst
 waited-is w rqst start arb d k s h = subst (λ (b : Bool). waveOf w rqst b arb d ≡ waitedOf w rqst) (sym s) (by-test (w .rqst) going resting)
   where
-    owned-still : (w .owned || false) ≡ w .owned
-    owned-still = or-false (w .owned)
-
     going : w .rqst ≡ true → waveOf w rqst false arb d ≡ waitedOf w rqst
     going e =
         let q = and-both (eqb d 1) rqst (implied (w .rqst) (eqb d 1 && rqst) h e) in
-        wave-same refl (both-and (eqb d 1) (w .rqst) (q .0) e ∙ sym e) owned-still
+        wave-same refl (both-and (eqb d 1) (w .rqst) (q .0) e ∙ sym e) refl
         (cond-true _ _ (q .1) ∙ cap-one (w .since) d (k .low) (eqb-true d 1 (q .0)))
         (cond-true _ _ (q .1)) (cond-true _ _ (q .1))
 
     resting : w .rqst ≡ false → waveOf w rqst false arb d ≡ waitedOf w rqst
     resting e =
-        wave-same refl (ap (λ (b : Bool). eqb d 1 && b) e ∙ and-false (eqb d 1) ∙ sym e) owned-still
+        wave-same refl (ap (λ (b : Bool). eqb d 1 && b) e ∙ and-false (eqb d 1) ∙ sym e) refl
         (choice (λ (n : ℕ). n ≡ 3) rqst (λ _. capped-three (w .since) d (k .since e)) (λ _. refl) ∙ still-three (w .since) (k .since e))
         (choice (λ (n : ℕ). n ≡ w .arb) rqst (λ _. refl) (λ _. sym (k .arb e)))
         (choice (λ (n : ℕ). n ≡ w .turn) rqst (λ _. refl) (λ _. sym (k .turn e)))
@@ -79,7 +78,7 @@ started-is w rqst start arb d k s h = subst (λ (b : Bool). waveOf w rqst b arb 
     going e =
         let a : askedOf w d ≡ true = both-and (eqb d 1) (w .rqst) (eq-eqb d 1 (h e)) e in
         let b : (w .rqst && rqst) ≡ rqst = ap (λ (x : Bool). x && rqst) e in
-        wave-same refl (a ∙ sym e) (ap (λ (x : Bool). w .owned || x) (a ∙ sym e))
+        wave-same refl (a ∙ sym e) (ap (λ (x : Bool). cond x (Slot arb) (w .owner)) (a ∙ sym e))
         (ap (λ (x : Bool). cond rqst (cond x 0 (capped (w .since + d))) 3) a ∙ ap (λ (x : Bool). cond x 0 3) (sym b))
         (ap (λ (x : Bool). cond rqst (cond x arb (w .arb)) 15) a ∙ ap (λ (x : Bool). cond x arb 15) (sym b))
         (ap (λ (x : Bool). cond rqst (cond x (cond (eqb arb (w .arb)) (w .turn + 1) 1) (w .turn)) 0) a ∙ ap (λ (x : Bool). cond x (cond (eqb arb (w .arb)) (w .turn + 1) 1) 0) (sym b))
@@ -88,7 +87,7 @@ started-is w rqst start arb d k s h = subst (λ (b : Bool). waveOf w rqst b arb 
     resting e =
         let a : askedOf w d ≡ false = ap (λ (x : Bool). eqb d 1 && x) e ∙ and-false (eqb d 1) in
         let b : (w .rqst && rqst) ≡ false = ap (λ (x : Bool). x && rqst) e in
-        wave-same refl (a ∙ sym e) (ap (λ (x : Bool). w .owned || x) (a ∙ sym e))
+        wave-same refl (a ∙ sym e) (ap (λ (x : Bool). cond x (Slot arb) (w .owner)) (a ∙ sym e))
         (ap (λ (x : Bool). cond rqst (cond x 0 (capped (w .since + d))) 3) a ∙ choice (λ (n : ℕ). n ≡ 3) rqst (λ _. capped-three (w .since) d (k .since e)) (λ _. refl) ∙ ap (λ (x : Bool). cond x 0 3) (sym b))
         (ap (λ (x : Bool). cond rqst (cond x arb (w .arb)) 15) a ∙ choice (λ (n : ℕ). n ≡ 15) rqst (λ _. k .arb e) (λ _. refl) ∙ ap (λ (x : Bool). cond x arb 15) (sym b))
         (ap (λ (x : Bool). cond rqst (cond x (cond (eqb arb (w .arb)) (w .turn + 1) 1) (w .turn)) 0) a ∙ choice (λ (n : ℕ). n ≡ 0) rqst (λ _. k .turn e) (λ _. refl) ∙ ap (λ (x : Bool). cond x (cond (eqb arb (w .arb)) (w .turn + 1) 1) 0) (sym b))
@@ -121,18 +120,18 @@ rule11-of limit false asked arb last turn f = refl
 ack-rules : (x : Transfer) (start ack tm1 tm0 : Bool) (d : ℕ) → start ≡ false → ack ≡ true → ackHolds x tm1 tm0 d ≡ true
     → (rule5 (isOpen x) start ack ≡ true) × ((rule12 (isOpen x) (openAge x) d ≡ true) × (rule13 (isOpen x) (openWords x) (openStrobes x) start ack tm1 tm0 ≡ true))
 ack-rules Idle start ack tm1 tm0 d s a h = absurd (false≢true h)
-ack-rules (Open w n g) true ack tm1 tm0 d s a h = absurd (true≢false s)
-ack-rules (Open w n g) false false tm1 tm0 d s a h = absurd (false≢true a)
-ack-rules (Open w n g) false true tm1 tm0 d s a h =
+ack-rules (Open w n g b) true ack tm1 tm0 d s a h = absurd (true≢false s)
+ack-rules (Open w n g b) false false tm1 tm0 d s a h = absurd (false≢true a)
+ack-rules (Open w n g b) false true tm1 tm0 d s a h =
     let p = and-both (leb (g + d) watchdog) (implies (tm1 && tm0) (eqb (n + 1) w)) h in
     (refl, (p .0, both-and (rule13a true w n false true tm0) (rule13b true w n true tm1 tm0) (implies-none (strobe w false true tm0) (ltb (n + 1) w) (and-false (ltb 1 w && tm0 && true))) (p .1)))
 
 quiet-rules : (x : Transfer) (start ack tm1 tm0 : Bool) (d : ℕ) → start ≡ false → ack ≡ false → quietHolds x tm0 d ≡ true
     → (rule5 (isOpen x) start ack ≡ true) × ((rule12 (isOpen x) (openAge x) d ≡ true) × (rule13 (isOpen x) (openWords x) (openStrobes x) start ack tm1 tm0 ≡ true))
 quiet-rules Idle start ack tm1 tm0 d s a h = (implies-none (ack && not start) false (ap (λ (b : Bool). b && not start) a), (refl, refl))
-quiet-rules (Open w n g) true ack tm1 tm0 d s a h = absurd (true≢false s)
-quiet-rules (Open w n g) false true tm1 tm0 d s a h = absurd (true≢false a)
-quiet-rules (Open w n g) false false tm1 tm0 d s a h =
+quiet-rules (Open w n g b) true ack tm1 tm0 d s a h = absurd (true≢false s)
+quiet-rules (Open w n g b) false true tm1 tm0 d s a h = absurd (true≢false a)
+quiet-rules (Open w n g b) false false tm1 tm0 d s a h =
     let p = and-both (leb (g + d) watchdog) (implies (ltb 1 w && tm0) (ltb (n + 1) w)) h in (
       refl,
       (
@@ -167,7 +166,7 @@ other-hold j t r d p s q r5 r12 r13 =
             (
               implies-none (r .start && not (r .ack)) _ (ap (λ (b : Bool). b && not (r .ack)) s),
               (
-                kind-of (r .start) (not (askedOf w d)) (w .owned) (no-start (r .start) s),
+                kind-of (r .start) (not (askedOf w d)) (isOwned (w .owner)) (no-start (r .start) s),
                 (
                   kind-of (r .start) (askedOf w d) (twiceOf w d) (no-start (r .start) s),
                   (
@@ -203,7 +202,7 @@ pub record StartSays (j : Judge) (r : Record) (words d : ℕ) : Type 0 where
   pub idle : isOpen (j .transfer) ≡ false
   pub alone : r .ack ≡ false
   pub some : ltb 0 words ≡ true
-  pub parked : j .wave .rqst ≡ false → j .wave .owned ≡ true
+  pub parked : j .wave .rqst ≡ false → isOwned (j .wave .owner) ≡ true
   pub turn : j .wave .rqst ≡ true → turnHolds (j .limit) (j .wave) (r .arb) d ≡ true
 
 start-says : (j : Judge) (t : Tally) (r : Record) (words d : ℕ) → StartKept j t r words d → StartSays j r words d
@@ -212,15 +211,15 @@ start-says j t r words d k =
     let w = j .wave in
     let busy = isOpen (j .transfer) in
     let inTurn = turnHolds (j .limit) w (r .arb) d in
-    let a = and-both (not busy && not (r .ack) && ltb 0 words && (w .rqst || w .owned)) (implies (w .rqst) inTurn) (k .holds) in
-    let b = and-both (not busy && not (r .ack) && ltb 0 words) (w .rqst || w .owned) (a .0) in
+    let a = and-both (not busy && not (r .ack) && ltb 0 words && (w .rqst || isOwned (w .owner))) (implies (w .rqst) inTurn) (k .holds) in
+    let b = and-both (not busy && not (r .ack) && ltb 0 words) (w .rqst || isOwned (w .owner)) (a .0) in
     let c = and-both (not busy && not (r .ack)) (ltb 0 words) (b .0) in
     let e = and-both (not busy) (not (r .ack)) (c .0) in
     record {
       idle = not-holds busy (e .0);
       alone = not-holds (r .ack) (e .1);
       some = c .1;
-      parked = other-holds (w .rqst) (w .owned) (b .1);
+      parked = other-holds (w .rqst) (isOwned (w .owner)) (b .1);
       turn = implied (w .rqst) inTurn (a .1);
     }
 
@@ -258,7 +257,7 @@ start-hold j t r words d k =
             (
               code-held (r .start && not (r .ack)) (ap (ltb 0) (sym (k .code)) ∙ z .some),
               (
-                kind-of (r .start) (not (askedOf w d)) (w .owned) (λ _ e. z .parked (rest (not-holds (askedOf w d) e))),
+                kind-of (r .start) (not (askedOf w d)) (isOwned (w .owner)) (λ _ e. z .parked (rest (not-holds (askedOf w d) e))),
                 (
                   kind-of (r .start) (askedOf w d) (twiceOf w d)
                       (λ _ e. let i = turn (asked-was w d e) in
@@ -304,11 +303,11 @@ abbrev tallied : Judge → Tally → Record → ℕ → Tally
 tallied j t r d = tallyOf t (isOpen (j .transfer)) (r .reset) (r .start) (r .ack) d
 
 pub start-leaves : (j : Judge) (t : Tally) (r : Record) (words d : ℕ) → StartKept j t r words d
-    → from (record { limit = j .limit; seen = true; stamp = r .stamp; transfer = Open words 0 0; wave = startedOf (j .wave) (r .rqst) (r .arb) }) (tallied j t r d) ≡ stepOf j t (record { lines = r; spare = 0 })
+    → from (record { limit = j .limit; seen = true; stamp = r .stamp; transfer = Open words 0 0 1; wave = startedOf (j .wave) (r .rqst) (r .arb) }) (tallied j t r d) ≡ stepOf j t (record { lines = r; spare = 0 })
 start-leaves j t r words d k =
     let z = start-says j t r words d k in
-    let transfer : Open words 0 0 ≡ transferOf (j .transfer) (r .start) (r .ack) (r .tm0) (wordsOf (r .tm0) (r .ad)) d =
-    ap (λ (n : ℕ). Open n 0 0) (k .code) ∙ sym (cond-true _ _ (k .starts)) ∙ sym (cond-false _ _ (z .alone)) in
+    let transfer : Open words 0 0 1 ≡ transferOf (j .transfer) (r .start) (r .ack) (r .tm0) (wordsOf (r .tm0) (r .ad)) d =
+    ap (λ (n : ℕ). Open n 0 0 1) (k .code) ∙ sym (cond-true _ _ (k .starts)) ∙ sym (cond-false _ _ (z .alone)) in
     let wave = started-is (j .wave) (r .rqst) (r .start) (r .arb) d (k .plain .ready .wave) (k .starts) (λ e. in-turn (j .limit) (j .wave) (r .arb) d (z .turn e) .next) in
     ap (λ (x : Judge). from x (tallied j t r d)) (judge-same (j .limit) (r .stamp) transfer (sym wave)) ∙ step-kept j t r d (k .plain) (start-hold j t r words d k)
 

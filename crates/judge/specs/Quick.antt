@@ -17,8 +17,9 @@ use Rattle.rules.specs.declared.Tally.{Tally}
 use Rattle.rules.specs.declared.Wave.{Wave}
 use Rattle.rules.specs.declared.Transfer.{Transfer}
 use Rattle.rules.specs.declared.Transfer.the-variants.{Idle, Open}
+use Rattle.rules.specs.declared.Owner.the-variants.{Slot}
 use Rattle.rules.specs.Rules.{rule3}
-use Rattle.rules.specs.State.{isOpen, diffOf}
+use Rattle.rules.specs.State.{isOpen, isOwned, diffOf}
 use Rattle.rules.specs.Bounds.{SoundJudge, SoundTally}
 use Rattle.rules.specs.Run.{from, runOf, recordsIn}
 use Rattle.rules.specs.declared.Outcome.{Outcome}
@@ -56,7 +57,7 @@ waitedOf w rqst =
     record {
       rqst = rqst;
       prior = w .rqst;
-      owned = w .owned;
+      owner = w .owner;
       since = w .since + one (ltb (w .since) 3);
       arb = w .arb;
       turn = w .turn;
@@ -68,7 +69,7 @@ startedOf w rqst arb =
     record {
       rqst = rqst;
       prior = w .rqst;
-      owned = w .owned || w .rqst;
+      owner = cond (w .rqst) (Slot arb) (w .owner);
       since = cond (w .rqst && rqst) 0 3;
       arb = cond (w .rqst && rqst) arb 15;
       turn = cond (w .rqst && rqst) (cond (eqb arb (w .arb)) (w .turn + 1) 1) 0;
@@ -82,7 +83,7 @@ turnHolds limit w arb d =
 -- a START without ACK keeps rules 4 to 13, its code having so many words; `inTurn` is the test above
 unfoldable pub startHolds : Bool → ℕ → Wave → Bool → Bool → Bool
 startHolds busy words w inTurn ack =
-    not busy && not ack && ltb 0 words && (w .rqst || w .owned) && implies (w .rqst) inTurn
+    not busy && not ack && ltb 0 words && (w .rqst || isOwned (w .owner)) && implies (w .rqst) inTurn
 
 -- a record without START keeps rule 9
 abbrev pub requestHolds : Wave → Bool → ℕ → Bool
@@ -91,12 +92,12 @@ requestHolds w rqst d = implies (w .rqst) (eqb d 1 && rqst)
 -- an ACK without START keeps rules 5, 12 and 13
 abbrev pub ackHolds : Transfer → Bool → Bool → ℕ → Bool
 ackHolds Idle tm1 tm0 d = false
-ackHolds (Open words strobes age) tm1 tm0 d = leb (age + d) watchdog && implies (tm1 && tm0) (eqb (strobes + 1) words)
+ackHolds (Open words strobes age busy) tm1 tm0 d = leb (age + d) watchdog && implies (tm1 && tm0) (eqb (strobes + 1) words)
 
 -- a record with neither keeps rules 12 and 13
 abbrev pub quietHolds : Transfer → Bool → ℕ → Bool
 quietHolds Idle tm0 d = true
-quietHolds (Open words strobes age) tm0 d = leb (age + d) watchdog && implies (ltb 1 words && tm0) (ltb (strobes + 1) words)
+quietHolds (Open words strobes age busy) tm0 d = leb (age + d) watchdog && implies (ltb 1 words && tm0) (ltb (strobes + 1) words)
 
 -- rules 1 and 2 of a record that is not the first, rule 3, and no RESET
 abbrev pub plainly : ℕ → ℕ → Bool → Bool → Bool

@@ -1,20 +1,22 @@
 // The state and the tally after a record that breaks no rule (document 01, "The judge", and its "Totals").
 ghost use mathlib.Core.Path.{_≡_};
-ghost use mathlib.Core.Bool.{true, false};
+ghost use mathlib.Core.Bool.{true, false, cond};
 ghost use Prim.Native.Nat.{_+_, _^_, _≤_, _<_};
 ghost use Rattle.codes.specs.Owed.{wordsOf};
+ghost use Rattle.rules.specs.declared.Owner.the-variants.{Slot};
 ghost use Rattle.rules.specs.Rules.{rule12};
 ghost use Rattle.rules.specs.State.{isOpen, openAge, agedOf, transferOf, capped, waveOf, resetOf, movedOf, judgeOf, tallyOf};
 ghost use Rattle.rules.specs.Bounds.{SoundTransfer, SoundJudge, SoundTally};
 ghost use Rattle.rules.specs.Run.{from as starting};
 use record::Record;
 use rules::Judge;
+use rules::Owner;
 use rules::Progress;
 use rules::Tally;
 use rules::Transfer;
 use rules::Wave;
 
-// A transfer that stays open ages by the cycles since the last record, and counts a strobe.
+// A transfer that stays open ages by the cycles since the last record, is busy in them, and counts a strobe.
 pub(crate) fn aged(transfer: Transfer, lines: Record, d: u32) -> Transfer
     requires { ⌜ SoundTransfer transfer × (rule12 (isOpen transfer) (openAge transfer) d ≡ true) ⌝ }
     ensures { λ r. ⌜ r ≡ agedOf transfer (lines .start) (lines .ack) (lines .tm0) d ⌝ }
@@ -25,14 +27,17 @@ pub(crate) fn aged(transfer: Transfer, lines: Record, d: u32) -> Transfer
             words,
             strobes,
             age,
+            busy,
         } => {
             let counts = (1 < words) & lines.tm0 & !lines.start & !lines.ack;
             let with = strobes + basics::one_if(counts);
             let older = age as u32 + d;
+            let longer = busy + d;
             Transfer::Open {
                 words: words,
                 strobes: with,
                 age: older as u16,
+                busy: longer,
             }
         }
     }
@@ -52,6 +57,7 @@ fn next_transfer(transfer: Transfer, lines: Record, d: u32) -> Transfer
             words: words,
             strobes: 0,
             age: 0,
+            busy: 1,
         };
     }
     aged(transfer, lines, d)
@@ -65,12 +71,23 @@ fn next_since(since: u8, d: u32) -> u8
     if n < 3 { n as u8 } else { 3 }
 }
 
+// A START of a wave makes its master the owner.
+pub(crate) fn next_owner(starts: bool, arb: u8, owner: Owner) -> Owner
+    ensures { λ r. ⌜ r ≡ cond starts (Slot arb) owner ⌝ }
+{
+    if starts {
+        return Owner::Slot(arb);
+    }
+    owner
+}
+
 fn next_wave(wave: Wave, lines: Record, d: u32) -> Wave
     requires { ⌜ wave .turn ≤ 16 ⌝ }
     ensures { λ r. ⌜ r ≡ waveOf wave (lines .rqst) (lines .start) (lines .arb) d ⌝ }
 {
     let arb = lines.arb;
     let rqst = lines.rqst;
+    let owner = wave.owner;
     let one = breach::asked(wave, d);
     let starts = lines.start & one;
     let since = basics::pick(starts, 0, next_since(wave.since, d));
@@ -80,7 +97,7 @@ fn next_wave(wave: Wave, lines: Record, d: u32) -> Wave
     Wave {
         rqst: rqst,
         prior: one,
-        owned: wave.owned | starts,
+        owner: next_owner(starts, arb, owner),
         since: basics::pick(rqst, since, 3),
         arb: basics::pick(rqst, last, 15),
         turn: basics::pick(rqst, turn, 0),

@@ -1,7 +1,8 @@
 // The bounds of a state and of a tally (document 01, "Bounds for refusal 5: .. for the judge, ..").
 ghost use mathlib.Core.Path.{_≡_};
-ghost use Rattle.rules.specs.Bounds.{transferBounds, judgeBounds, tallyBounds};
+ghost use Rattle.rules.specs.Bounds.{transferBounds, ownerBounds, judgeBounds, tallyBounds};
 use rules::Judge;
+use rules::Owner;
 use rules::Tally;
 use rules::Transfer;
 
@@ -14,7 +15,23 @@ fn transfer_in_bounds(transfer: Transfer) -> bool
             words,
             strobes,
             age,
-        } => (1 <= words) & (words <= 16) & (strobes < words) & (age <= Judge::WATCHDOG),
+            busy,
+        } => {
+            (1 <= words)
+                & (words <= 16)
+                & (strobes < words)
+                & (age <= Judge::WATCHDOG)
+                & (busy <= age as u32 + 1)
+        }
+    }
+}
+
+fn owner_in_bounds(owner: Owner) -> bool
+    ensures { λ r. ⌜ r ≡ ownerBounds owner ⌝ }
+{
+    match owner {
+        Owner::Nobody => true,
+        Owner::Slot(slot) => slot <= 15,
     }
 }
 
@@ -23,10 +40,12 @@ pub fn judge_in_bounds(judge: Judge) -> bool
 {
     let transfer = judge.transfer;
     let wave = judge.wave;
+    let owner = wave.owner;
     ((1 <= judge.limit) & (judge.limit <= Judge::MOST_STARTS))
         & transfer_in_bounds(transfer)
         & (wave.turn <= judge.limit)
         & (wave.arb <= 15)
+        & owner_in_bounds(owner)
 }
 
 pub fn tally_in_bounds(tally: Tally) -> bool

@@ -14,7 +14,7 @@ ghost use Prim.Native.Nat.{ℕ, _+_, _/_, _^_, _≤_, _<_};
 ghost use lib.ListN.{length, take};
 ghost use Rattle.rules.specs.Bounds.{SoundJudge, SoundTally};
 ghost use Rattle.rules.specs.Run.{takenIn, spanOf, broken, stepOf, recordsIn, runOf, from as starting};
-ghost use Rattle.rules.specs.Verdict.{refusalOf, refusedBy, verdictOf, outcomeOf, judgedOf};
+ghost use Rattle.rules.specs.Verdict.{refusalOf, verdictOf, outcomeOf, judgedOf};
 ghost use Rattle.rules.specs.Exact.{After, Told};
 ghost use Rattle.judge.specs.Quick.{callOf};
 use record::Record;
@@ -129,18 +129,6 @@ fn refusal(size: usize, judge: Judge, tally: Tally) -> u8
     )
 }
 
-fn refused_by(number: u8) -> Verdict
-    ensures { λ r. ⌜ r ≡ refusedBy number ⌝ }
-{
-    if number == 5 {
-        return Verdict::OutOfBounds;
-    }
-    if number == 8 {
-        return Verdict::TooMany;
-    }
-    Verdict::Torn
-}
-
 // "A breach names its rule and the tally's records", its kind and the span.
 fn verdict_of(end: Progress) -> Verdict
     ensures { λ r. ⌜ r ≡ verdictOf end ⌝ }
@@ -167,7 +155,7 @@ pub fn judge_all(bytes: &[u8], judge: Judge, tally: Tally) -> Outcome
     let number = refusal(bytes.len(), judge, tally);
     if number != 0 {
         return Outcome {
-            verdict: refused_by(number),
+            verdict: rules::refused_by(number),
             judge: judge,
             tally: tally,
         };

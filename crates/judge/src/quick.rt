@@ -39,10 +39,11 @@ fn waited(wave: Wave, rqst: bool) -> Wave
     requires { ⌜ WaveKept wave ⌝ }
     ensures { λ r. ⌜ r ≡ waitedOf wave rqst ⌝ }
 {
+    let owner = wave.owner;
     Wave {
         rqst: rqst,
         prior: wave.rqst,
-        owned: wave.owned,
+        owner: owner,
         since: wave.since + basics::one_if(wave.since < 3),
         arb: wave.arb,
         turn: wave.turn,
@@ -54,11 +55,12 @@ fn started(wave: Wave, rqst: bool, arb: u8) -> Wave
     ensures { λ r. ⌜ r ≡ startedOf wave rqst arb ⌝ }
 {
     let of_wave = wave.rqst & rqst;
+    let owner = wave.owner;
     let again = basics::pick(arb == wave.arb, wave.turn + 1, 1);
     Wave {
         rqst: rqst,
         prior: wave.rqst,
-        owned: wave.owned | wave.rqst,
+        owner: after::next_owner(wave.rqst, arb, owner),
         since: basics::pick(of_wave, 0, 3),
         arb: basics::pick(of_wave, arb, 15),
         turn: basics::pick(of_wave, again, 0),
@@ -78,7 +80,8 @@ fn turn_holds(limit: u8, wave: Wave, arb: u8, d: u32) -> bool
 fn start_holds(busy: bool, words: u8, wave: Wave, in_turn: bool, ack: bool) -> bool
     ensures { λ r. ⌜ r ≡ startHolds busy words wave in_turn ack ⌝ }
 {
-    !busy & !ack & (0 < words) & (wave.rqst | wave.owned) & (!wave.rqst | in_turn)
+    let owner = wave.owner;
+    !busy & !ack & (0 < words) & (wave.rqst | rules::is_owned(owner)) & (!wave.rqst | in_turn)
 }
 
 fn request_holds(wave: Wave, rqst: bool, d: u32) -> bool
@@ -96,6 +99,7 @@ fn ack_holds(transfer: Transfer, tm1: bool, tm0: bool, d: u32) -> bool
             words,
             strobes,
             age,
+            busy: _,
         } => {
             (age as u64 + d as u64 <= AGE_MOST)
                 & (!(tm1 & tm0) | (strobes as u32 + 1 == words as u32))
@@ -112,6 +116,7 @@ fn quiet_holds(transfer: Transfer, tm0: bool, d: u32) -> bool
             words,
             strobes,
             age,
+            busy: _,
         } => {
             let with = strobes as u32 + 1;
             (age as u64 + d as u64 <= AGE_MOST) & (!((1 < words) & tm0) | (with < words as u32))
@@ -129,6 +134,7 @@ fn after_start(judge: Judge, tally: Tally, lines: Record, words: u8, d: u32) -> 
         words: words,
         strobes: 0,
         age: 0,
+        busy: 1,
     };
     let wave = started(last, lines.rqst, lines.arb);
     let next = after::state_after(judge, lines.stamp, transfer, wave);

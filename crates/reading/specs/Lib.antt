@@ -1,2 +1,3 @@
+pub mod Words
 pub mod Reads
 pub mod Pages

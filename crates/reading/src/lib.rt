@@ -1,11 +1,14 @@
-// What the programs share that read a recording on standard input: a read as a value, how many reads are enough, and what there is to say.
+// What the programs share that read a recording on standard input: a read as a value, how many reads are enough, what there is to say, and the hold
+// limit that they are given.
 ghost use mathlib.Core.Path.{_≡_};
 ghost use Prim.Native.Nat.{min};
 ghost use lib.IntN.{ℤ};
 ghost use Rattle.io.specs.Counts.{Counts};
 ghost use Rattle.reading.specs.Reads.{broughtBy};
+ghost use Rattle.reading.specs.Words.{limitGiven};
 use libc::STDIN_FILENO;
 use rules::Judge;
+use text::Number;
 
 // Every read but the last brings a byte or more, and with the bytes of one record past 2^30 no more of an input counts: so many reads are enough.
 pub const TURNS: u64 = (Judge::MOST_RECORDS as u64 + 1) * 16;
@@ -49,4 +52,17 @@ pub fn narrowed(number: u64) -> u8
     ensures { λ r. ⌜ r ≡ min number 255 ⌝ }
 {
     if number < 255 { number as u8 } else { 255 }
+}
+
+// The hold limit of a program that takes nothing else: 16, or what its one argument says.
+pub fn limit_given(words: usize, second: &[u8]) -> Number
+    ensures { λ r. ⌜ r ≡ limitGiven words (now (second .entry)) ⌝ }
+{
+    if words < 2 {
+        return Number::Is(16);
+    }
+    if 2 < words {
+        return Number::NotANumber;
+    }
+    text::number_in(second)
 }

@@ -89,7 +89,7 @@ exactly-breach limit r n o b h = (
 )
 
 -- ---- the totals are one
-number-only : (P : ℕ → Type 0) (n c d : ℕ) → Number P n c → Number P n d → c ≡ d
+pub number-only : (P : ℕ → Type 0) (n c d : ℕ) → Number P n c → Number P n d → c ≡ d
 number-only P zero c d none none = refl
 number-only P (suc n) c d (more p h) (more q g) = ap (λ x. x + 1) (number-only P n _ _ h g)
 number-only P (suc n) c d (more p h) (other f g) = absurd (f p)

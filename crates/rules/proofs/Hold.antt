@@ -67,24 +67,25 @@ opened-before r i k o lt =
     }
 
 -- one transfer at most is open
-only : (r : Lines) (i k n : ℕ) → Opened r i k → Opened r i n → k ≡ n
-only r i k n o q =
+pub opened-only : (r : Lines) (i k n : ℕ) → Opened r i k → Opened r i n → k ≡ n
+opened-only r i k n o q =
     same-place k n (λ lt. clash (q .starts) (o .alone n lt (q .earlier))) (λ lt. clash (o .starts) (q .alone k lt (o .earlier)))
 
 -- ---- what the judge's transfer says of the recording before record i
-pub record HeldBy (r : Lines) (i k words strobes age : ℕ) : Type 0 where
+pub record HeldBy (r : Lines) (i k words strobes age busy : ℕ) : Type 0 where
   pub since : Opened r i k
   pub same : words ≡ wordsAt r k
   pub seen : strobes ≡ count (strobeOf r k) i
   pub aged : cycle r k + age + gap r i ≡ cycle r i
+  pub spent : cycle r k + busy + gap r i ≡ cycle r i + 1
 
 abbrev pub Held : Lines → ℕ → Transfer → Type 0
 Held r i Idle = (k : ℕ) → Opened r i k → ⊥
-Held r i (Open words strobes age) = (k : ℕ) × HeldBy r i k words strobes age
+Held r i (Open words strobes age busy) = (k : ℕ) × HeldBy r i k words strobes age busy
 
 pub open-exact : (r : Lines) (i : ℕ) (t : Transfer) → Held r i t → (isOpen t ≡ true) ↔ ((k : ℕ) × Opened r i k)
 open-exact r i Idle h = (λ e. absurd (false≢true e), λ o. absurd (h (o .0) (o .1)))
-open-exact r i (Open w s a) (k, h) = (λ _. (k, h .since), λ _. refl)
+open-exact r i (Open w s a b) (k, h) = (λ _. (k, h .since), λ _. refl)
 
 pub held-reset : (r : Lines) (i : ℕ) → r i .reset ≡ true → Held r (suc i) Idle
 held-reset r i e k o = clash e (o .unbroken i (let z : k ≤ i = omega (arith, o .earlier) in z) (omega arith))
@@ -93,13 +94,14 @@ held-acked : (r : Lines) (i : ℕ) → r i .ack ≡ true → Held r (suc i) Idle
 held-acked r i e k o =
     below k i (o .earlier) (λ lt. clash e (o .unanswered i lt (omega arith))) (λ q. clash e (subst (λ m. r m .ack ≡ false) q (o .lasts)))
 
-held-started : (r : Lines) (i : ℕ) → r i .reset ≡ false → r i .start ≡ true → r i .ack ≡ false → Rule7 r i → HeldBy r (suc i) i (wordsOf (r i .tm0) (r i .ad)) 0 0
+held-started : (r : Lines) (i : ℕ) → r i .reset ≡ false → r i .start ≡ true → r i .ack ≡ false → Rule7 r i → HeldBy r (suc i) i (wordsOf (r i .tm0) (r i .ad)) 0 0 1
 held-started r i nr s na r7 =
     record {
       since = opened-now r i nr s na;
       same = words-exact r i (r7 s na);
       seen = sym (count-none (strobeOf r i) (suc i) (λ m lt. rw (le-ltb i m (let z : m ≤ i = omega arith in z))));
       aged = omega arith;
+      spent = omega arith;
     }
 
 -- a strobe of this record, by the words that the judge implying
@@ -109,13 +111,14 @@ strobe-now r i k w lt e = rw (lt-ltb k i lt, e)
 held-aged : (r : Lines) (i : ℕ) (t : Transfer) → Held r i t → r i .reset ≡ false → r i .start ≡ false → r i .ack ≡ false → Held r (suc i) (agedOf t (r i .start) (r i .ack) (r i .tm0) (gap r i))
 held-aged r i Idle h nr ns na = λ k o.
     below k i (o .earlier) (λ lt. h k (opened-before r i k o lt)) (λ q. clash (subst (λ m. r m .start ≡ true) q (o .starts)) ns)
-held-aged r i (Open w s a) (k, h) nr ns na = (
+held-aged r i (Open w s a b) (k, h) nr ns na = (
   k,
   record {
     since = opened-next r i k (h .since) nr ns na;
     same = h .same;
     seen = ap (λ x. x + one (strobe w (r i .start) (r i .ack) (r i .tm0))) (h .seen) ∙ ap (λ x. count (strobeOf r k) i + one x) (sym (strobe-now r i k w (h .since .earlier) (h .same)));
     aged = omega (arith, h .aged);
+    spent = omega (arith, h .spent);
   },
 )
 
@@ -127,7 +130,7 @@ held-next r i t h nr r7 =
 -- ---- the rules
 pub rule4-exact : (r : Lines) (i : ℕ) (t : Transfer) → Held r i t → (rule4 (isOpen t) (r i .start) ≡ true) ↔ Rule4 r i
 rule4-exact r i Idle h = (λ e k o. absurd (h k o), λ f. rw (and-false (r i .start)))
-rule4-exact r i (Open w s a) (k, h) =
+rule4-exact r i (Open w s a b) (k, h) =
     (λ e n o. off (r i .start) e, λ f. rw (f k (h .since)))
   where
     off : (b : Bool) → not (b && true) ≡ true → b ≡ false
@@ -144,11 +147,11 @@ rule7-exact r i =
 
 pub rule12-exact : (r : Lines) (i : ℕ) (t : Transfer) → Held r i t → (rule12 (isOpen t) (openAge t) (gap r i) ≡ true) ↔ Rule12 r i
 rule12-exact r i Idle h = (λ e k o. absurd (h k o), λ f. refl)
-rule12-exact r i (Open w s a) (k, h) = (
+rule12-exact r i (Open w s a b) (k, h) = (
   λ e n o.
       let x = leb-true (a + gap r i) watchdog e in
       let y : cycle r i ≤ cycle r k + watchdog = omega (arith, h .aged) in
-      subst (λ m. cycle r i ≤ cycle r m + watchdog) (only r i k n (h .since) o) y,
+      subst (λ m. cycle r i ≤ cycle r m + watchdog) (opened-only r i k n (h .since) o) y,
   λ f. let x = f k (h .since) in le-leb (a + gap r i) watchdog (omega (arith, h .aged)),
 )
 
@@ -157,9 +160,9 @@ strobes-open : (x : Bool) (s w : ℕ) → s < w → (implies x (ltb (s + 1) w) �
 strobes-open true s w few = (λ e. let z = ltb-true (s + 1) w e in let y : s + 1 + 1 ≤ w = omega arith in y, λ f. lt-ltb (s + 1) w (omega arith))
 strobes-open false s w few = (λ e. let z : s + 0 + 1 ≤ w = omega arith in z, λ f. refl)
 
-rule13a-exact : (r : Lines) (i k w s a : ℕ) → HeldBy r i k w s a → s < w → (rule13a true w s (r i .start) (r i .ack) (r i .tm0) ≡ true) ↔ Rule13a r i
-rule13a-exact r i k w s a h few = (
-  λ e n o. subst (λ m. count (strobeOf r m) (suc i) + 1 ≤ wordsAt r m) (only r i k n (h .since) o)
+rule13a-exact : (r : Lines) (i k w s a b : ℕ) → HeldBy r i k w s a b → s < w → (rule13a true w s (r i .start) (r i .ack) (r i .tm0) ≡ true) ↔ Rule13a r i
+rule13a-exact r i k w s a b h few = (
+  λ e n o. subst (λ m. count (strobeOf r m) (suc i) + 1 ≤ wordsAt r m) (opened-only r i k n (h .since) o)
       (let z = strobes-open (strobe w (r i .start) (r i .ack) (r i .tm0)) s w few .0 e in
       let v = now in
       let q : count (strobeOf r k) (suc i) + 1 ≤ wordsAt r k = omega (arith, h .seen, h .same) in q),
@@ -172,9 +175,9 @@ rule13a-exact r i k w s a h few = (
     now : one (strobeOf r k i) ≡ one (strobe w (r i .start) (r i .ack) (r i .tm0))
     now = ap one (strobe-now r i k w (h .since .earlier) (h .same))
 
-rule13b-exact : (r : Lines) (i k w s a : ℕ) → HeldBy r i k w s a → (rule13b true w s (r i .ack) (r i .tm1) (r i .tm0) ≡ true) ↔ Rule13b r i
-rule13b-exact r i k w s a h = (
-  λ e n o x y z. subst (λ m. count (strobeOf r m) i + 1 ≡ wordsAt r m) (only r i k n (h .since) o)
+rule13b-exact : (r : Lines) (i k w s a b : ℕ) → HeldBy r i k w s a b → (rule13b true w s (r i .ack) (r i .tm1) (r i .tm0) ≡ true) ↔ Rule13b r i
+rule13b-exact r i k w s a b h = (
+  λ e n o x y z. subst (λ m. count (strobeOf r m) i + 1 ≡ wordsAt r m) (opened-only r i k n (h .since) o)
       (let u = eqb-true (s + 1) w (implied (r i .ack && r i .tm1 && r i .tm0) _ e (and-pair (and-pair x y) z)) in
       let q : count (strobeOf r k) i + 1 ≡ wordsAt r k = omega (arith, h .seen, h .same) in q),
   λ f. implying (r i .ack && r i .tm1 && r i .tm0) (eqb (s + 1) w) (λ e.
@@ -186,5 +189,5 @@ rule13b-exact r i k w s a h = (
 
 pub rule13-exact : (r : Lines) (i : ℕ) (t : Transfer) → Held r i t → SoundTransfer t → (rule13 (isOpen t) (openWords t) (openStrobes t) (r i .start) (r i .ack) (r i .tm1) (r i .tm0) ≡ true) ↔ Rule13 r i
 rule13-exact r i Idle h sound = (λ e. (λ k o. absurd (h k o), λ k o. absurd (h k o)), λ f. refl)
-rule13-exact r i (Open w s a) (k, h) sound =
-    and-iff (rule13a true w s (r i .start) (r i .ack) (r i .tm0)) (rule13b true w s (r i .ack) (r i .tm1) (r i .tm0)) (rule13a-exact r i k w s a h (sound .few)) (rule13b-exact r i k w s a h)
+rule13-exact r i (Open w s a b) (k, h) sound =
+    and-iff (rule13a true w s (r i .start) (r i .ack) (r i .tm0)) (rule13b true w s (r i .ack) (r i .tm1) (r i .tm0)) (rule13a-exact r i k w s a b h (sound .few)) (rule13b-exact r i k w s a b h)

@@ -12,7 +12,7 @@ use lib.Dec.{leb, ltb, eqb}
 use borrow.Author.Tests.{eq-eqb, ne-eqb, leb-true, ltb-true, eqb-true, eqb-false, le-leb, lt-ltb}
 use Rattle.basics.specs.Lines.{one}
 use Rattle.basics.specs.Order.{unless}
-use Rattle.basics.proofs.Bools.{choice, cond-true, cond-false, and-both, both-and, implied}
+use Rattle.basics.proofs.Bools.{choice, push, cond-true, cond-false, and-both, both-and, implied}
 use Rattle.record.specs.declared.Record.{Record}
 use Rattle.record.specs.Layout.{recordIn, fieldsIn}
 use Rattle.rules.specs.declared.Judge.{Judge}
@@ -22,6 +22,8 @@ use Rattle.rules.specs.declared.Rule.{Rule}
 use Rattle.rules.specs.declared.Progress.{Progress}
 use Rattle.rules.specs.declared.Transfer.{Transfer}
 use Rattle.rules.specs.declared.Transfer.the-variants.{Idle, Open}
+use Rattle.rules.specs.declared.Owner.{Owner}
+use Rattle.rules.specs.declared.Owner.the-variants.{Nobody, Slot}
 use Rattle.basics.specs.Numbers.{watchdog, lawfulLimit}
 use Rattle.basics.specs.Order.{implies}
 use Rattle.codes.specs.Owed.{wordsOf}
@@ -29,7 +31,7 @@ use Rattle.codes.proofs.OwedLaws.{owed-most}
 use Rattle.rules.specs.Names.{only}
 use Rattle.rules.specs.Rules.{difference, strobe, rule1, rule2, rule7, rule9, rule10, rule11, rule12, rule13, rule13a, rule13b}
 use Rattle.rules.specs.State.{isOpen, openWords, openStrobes, openAge, agedOf, transferOf, askedOf, waveOf, freshJudge, diffOf, resetOf, movedOf, judgeOf, tallyOf}
-use Rattle.rules.specs.Bounds.{transferBounds, judgeBounds, tallyBounds, SoundTransfer, SoundJudge, SoundTally}
+use Rattle.rules.specs.Bounds.{transferBounds, ownerBounds, judgeBounds, tallyBounds, SoundTransfer, SoundOwner, SoundJudge, SoundTally}
 use Rattle.rules.specs.Run.{Taken, takenIn, recordsIn, lowest, laterRules, ruleOf, from, broken, stepOf, nextOf, runOf}
 use Rattle.rules.specs.Verdict.{mostRecords, refusalOf, refusedBy, outcomeIn, outcomeOf}
 
@@ -185,21 +187,31 @@ run-parts p a b e =
 -- ---- the bounds, from tests to facts and back
 transfer-sound : (t : Transfer) → transferBounds t ≡ true → SoundTransfer t
 transfer-sound Idle e = tt
-transfer-sound (Open w s a) e =
-    let p = and-both (leb 1 w && leb w 16 && ltb s w) (leb a watchdog) e in
+transfer-sound (Open w s a b) e =
+    let o = and-both (leb 1 w && leb w 16 && ltb s w && leb a watchdog) (leb b (a + 1)) e in
+    let p = and-both (leb 1 w && leb w 16 && ltb s w) (leb a watchdog) (o .0) in
     let q = and-both (leb 1 w && leb w 16) (ltb s w) (p .0) in
     let r = and-both (leb 1 w) (leb w 16) (q .0) in
-    record { low = leb-true 1 w (r .0); high = leb-true w 16 (r .1); few = ltb-true s w (q .1); young = leb-true a watchdog (p .1) }
+    record { low = leb-true 1 w (r .0); high = leb-true w 16 (r .1); few = ltb-true s w (q .1); young = leb-true a watchdog (p .1); spent = leb-true b (a + 1) (o .1) }
 
 sound-transfer : (t : Transfer) → SoundTransfer t → transferBounds t ≡ true
 sound-transfer Idle h = refl
-sound-transfer (Open w s a) h =
-    both-and _ _ (both-and _ _ (both-and _ _ (le-leb 1 w (h .low)) (le-leb w 16 (h .high))) (lt-ltb s w (h .few))) (le-leb a watchdog (h .young))
+sound-transfer (Open w s a b) h =
+    both-and _ _ (both-and _ _ (both-and _ _ (both-and _ _ (le-leb 1 w (h .low)) (le-leb w 16 (h .high))) (lt-ltb s w (h .few))) (le-leb a watchdog (h .young))) (le-leb b (a + 1) (h .spent))
+
+owner-sound : (o : Owner) → ownerBounds o ≡ true → SoundOwner o
+owner-sound Nobody e = tt
+owner-sound (Slot s) e = leb-true s 15 e
+
+sound-owner : (o : Owner) → SoundOwner o → ownerBounds o ≡ true
+sound-owner Nobody h = refl
+sound-owner (Slot s) h = le-leb s 15 h
 
 pub judge-sound : (j : Judge) → judgeBounds j ≡ true → SoundJudge j
 unfolding judgeBounds
 judge-sound j e =
-    let p = and-both (lawfulLimit (j .limit) && transferBounds (j .transfer) && leb (j .wave .turn) (j .limit)) (leb (j .wave .arb) 15) e in
+    let o = and-both (lawfulLimit (j .limit) && transferBounds (j .transfer) && leb (j .wave .turn) (j .limit) && leb (j .wave .arb) 15) (ownerBounds (j .wave .owner)) e in
+    let p = and-both (lawfulLimit (j .limit) && transferBounds (j .transfer) && leb (j .wave .turn) (j .limit)) (leb (j .wave .arb) 15) (o .0) in
     let q = and-both (lawfulLimit (j .limit) && transferBounds (j .transfer)) (leb (j .wave .turn) (j .limit)) (p .0) in
     let r = and-both (lawfulLimit (j .limit)) (transferBounds (j .transfer)) (q .0) in
     let u = and-both (leb 1 (j .limit)) (leb (j .limit) 16) (r .0) in
@@ -209,6 +221,7 @@ judge-sound j e =
       transfer = transfer-sound (j .transfer) (r .1);
       turn = leb-true (j .wave .turn) (j .limit) (q .1);
       arb = leb-true (j .wave .arb) 15 (p .1);
+      owner = owner-sound (j .wave .owner) (o .1);
     }
 
 pub sound-judge : (j : Judge) → SoundJudge j → judgeBounds j ≡ true
@@ -216,9 +229,11 @@ unfolding judgeBounds
 sound-judge j h =
     both-and _ _
     (both-and _ _
+    (both-and _ _
     (both-and _ _ (both-and _ _ (le-leb 1 (j .limit) (h .low)) (le-leb (j .limit) 16 (h .high))) (sound-transfer (j .transfer) (h .transfer)))
     (le-leb (j .wave .turn) (j .limit) (h .turn)))
-    (le-leb (j .wave .arb) 15 (h .arb))
+    (le-leb (j .wave .arb) 15 (h .arb)))
+    (sound-owner (j .wave .owner) (h .owner))
 
 pub tally-sound : (t : Tally) → tallyBounds t ≡ true → SoundTally t
 unfolding tallyBounds
@@ -245,12 +260,13 @@ sound-tally t h =
 -- ---- the bounds are kept
 aged-sound : (t : Transfer) (start ack tm1 tm0 : Bool) (d : ℕ) → SoundTransfer t → rule12 (isOpen t) (openAge t) d ≡ true → rule13 (isOpen t) (openWords t) (openStrobes t) start ack tm1 tm0 ≡ true → SoundTransfer (agedOf t start ack tm0 d)
 aged-sound Idle start ack tm1 tm0 d h r12 r13 = tt
-aged-sound (Open w s a) start ack tm1 tm0 d h r12 r13 =
+aged-sound (Open w s a b) start ack tm1 tm0 d h r12 r13 =
     record {
       low = h .low;
       high = h .high;
       few = few-more (strobe w start ack tm0) (h .few) (and-both (rule13a true w s start ack tm0) (rule13b true w s ack tm1 tm0) r13 .0);
       young = leb-true (a + d) watchdog r12;
+      spent = omega (arith, h .spent);
     }
   where
     few-more : (b : Bool) → s < w → implies b (ltb (s + 1) w) ≡ true → s + one b < w
@@ -263,7 +279,7 @@ transfer-kept t start ack tm1 tm0 ad d h r7 r12 r13 =
     choice SoundTransfer ack (λ _. tt) (λ na.
     choice SoundTransfer start (λ st.
     let some = ltb-true 0 (wordsOf tm0 ad) (implied (start && not ack) _ r7 (both-and start (not ack) st (ap not na))) in
-    record { low = some; high = owed-most tm0 ad; few = some; young = omega arith })
+    record { low = some; high = owed-most tm0 ad; few = some; young = omega arith; spent = omega arith })
     (λ _. aged-sound t start ack tm1 tm0 d h r12 r13))
 
 turn-kept : (limit : ℕ) (w : Wave) (rqst start : Bool) (arb d : ℕ) → 1 ≤ limit → w .turn ≤ limit → rule11 limit start (askedOf w d) arb (w .arb) (w .turn) ≡ true → waveOf w rqst start arb d .turn ≤ limit
@@ -280,6 +296,14 @@ arb-kept w rqst start arb d la wa =
     let P : ℕ → Type 0 = λ k. k ≤ 15 in
     choice P rqst (λ _. choice P (start && askedOf w d) (λ _. la) (λ _. wa)) (λ _. omega arith)
 
+owner-kept : (w : Wave) (rqst start : Bool) (arb d : ℕ) → arb ≤ 15 → SoundOwner (w .owner) → SoundOwner (waveOf w rqst start arb d .owner)
+owner-kept w rqst start arb d la wo =
+    owner-sound (waveOf w rqst start arb d .owner) (simp (push ownerBounds, le-leb arb 15 la, sound-owner (w .owner) wo, one-way))
+  where
+    one-way : (b : Bool) → cond b true true ≡ true
+    one-way true = refl
+    one-way false = refl
+
 pub moved-sound : (j : Judge) (r : Record) (d : ℕ) → SoundJudge j → r .arb ≤ 15 → AllHold (laterRules j r d) → SoundJudge (movedOf j r d)
 moved-sound j r d h la a =
     record {
@@ -288,13 +312,14 @@ moved-sound j r d h la a =
       transfer = transfer-kept (j .transfer) (r .start) (r .ack) (r .tm1) (r .tm0) (r .ad) d (h .transfer) (seventh j r d a) (twelfth j r d a) (thirteenth j r d a);
       turn = turn-kept (j .limit) (j .wave) (r .rqst) (r .start) (r .arb) d (h .low) (h .turn) (eleventh j r d a);
       arb = arb-kept (j .wave) (r .rqst) (r .start) (r .arb) d la (h .arb);
+      owner = owner-kept (j .wave) (r .rqst) (r .start) (r .arb) d la (h .owner);
     }
 
 pub fresh-sound : (limit : ℕ) → 1 ≤ limit → limit ≤ 16 → SoundJudge (freshJudge limit)
-fresh-sound limit low high = record { low = low; high = high; transfer = tt; turn = omega arith; arb = omega arith }
+fresh-sound limit low high = record { low = low; high = high; transfer = tt; turn = omega arith; arb = omega arith; owner = tt }
 
 pub reset-sound : (j : Judge) (stamp : ℕ) → SoundJudge j → SoundJudge (resetOf j stamp)
-reset-sound j stamp h = record { low = h .low; high = h .high; transfer = tt; turn = omega arith; arb = omega arith }
+reset-sound j stamp h = record { low = h .low; high = h .high; transfer = tt; turn = omega arith; arb = omega arith; owner = tt }
 
 pub judge-kept : (j : Judge) (r : Taken) (d : ℕ) → SoundJudge j → r .lines .arb ≤ 15 → ruleOf j r d .number ≡ 0 → SoundJudge (judgeOf j (r .lines) d)
 unfolding judgeOf

@@ -57,7 +57,7 @@ open-next : (t : Transfer) (start ack tm0 : Bool) (words d : ℕ) → isOpen (tr
 open-next t start true tm0 words d = refl
 open-next t true false tm0 words d = refl
 open-next Idle false false tm0 words d = refl
-open-next (Open w s a) false false tm0 words d = refl
+open-next (Open w s a b) false false tm0 words d = refl
 
 -- a RESET record ends what was open
 reset-balance : (reset start ack o : Bool) (x y z : ℕ) → reset ≡ true → x ≡ y + z + one o → x + one (start && not reset) ≡ y + one (ack && not reset) + (z + one (o && reset)) + 0
@@ -120,7 +120,7 @@ broken-of : (limit : ℕ) (r : Recording) (i : ℕ) (n : Rule) → (n .number �
 broken-of limit r i n ne (inl k) = absurd (ne (k .0))
 broken-of limit r i n ne (inr k) = k .1
 
-before-next : (limit : ℕ) (r : Recording) (i : ℕ) (j : Judge) (t : Tally) (d : ℕ) → Before limit r i j t → r .lines i .arb ≤ 15 → d ≡ gap (r .lines) i → ruleOf j (takenAt r i) d .number ≡ 0
+pub before-next : (limit : ℕ) (r : Recording) (i : ℕ) (j : Judge) (t : Tally) (d : ℕ) → Before limit r i j t → r .lines i .arb ≤ 15 → d ≡ gap (r .lines) i → ruleOf j (takenAt r i) d .number ≡ 0
     → Before limit r (suc i) (judgeOf j (r .lines i) d) (tallyOf t (isOpen (j .transfer)) (r .lines i .reset) (r .lines i .start) (r .lines i .ack) d)
 before-next limit r i j t d h la ed z =
     record {
@@ -189,7 +189,7 @@ reached-from limit r n i p (x ∷ ts) la at en z h =
           ends = inr (ne, omega arith, broken-of limit r i rule ne (subst (λ y. Found (ruleOf (p .judge) (takenAt r i) y) (rules limit r i)) (sym (h .judge .apart)) (lowest-exact limit r i (p .judge) (h .judge) (la i))), span-exact (r .lines) i (p .tally) d (rule .number) (h .totals) (h .judge .apart));
         })
 
-listed : (bytes : List ℕ) (i n : ℕ) → Listed (recordingIn bytes) i (recordsIn n (drop (i * 16) bytes))
+pub listed : (bytes : List ℕ) (i n : ℕ) → Listed (recordingIn bytes) i (recordsIn n (drop (i * 16) bytes))
 listed bytes i zero = tt
 listed bytes i (suc n) =
     let next : i * 16 + 16 ≡ suc i * 16 = omega arith in

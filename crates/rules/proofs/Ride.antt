@@ -7,12 +7,14 @@ use native.Mathlib.Omega.{arith}
 use lib.Dec.{ltb, leb, eqb}
 use borrow.Author.Tests.{ltb-true, ltb-false, lt-ltb, le-ltb, leb-true, le-leb, eqb-true, eq-eqb, eqb-false, not-true}
 use Rattle.basics.specs.Lines.{one}
-use Rattle.basics.proofs.Bools.{cond-true, cond-false, and-both, by-test, not-true as refuted, implied, implying}
+use Rattle.basics.proofs.Bools.{choice, cond-true, cond-false, and-both, by-test, not-true as refuted, implied, implying}
 use Rattle.rules.specs.declared.Wave.{Wave}
+use Rattle.rules.specs.declared.Owner.{Owner}
+use Rattle.rules.specs.declared.Owner.the-variants.{Nobody, Slot}
 use Rattle.basics.specs.Order.{implies}
 use Rattle.rules.specs.Rules.{rule8a, rule8b, rule8c, rule9, rule10, rule11}
-use Rattle.rules.specs.State.{askedOf, twiceOf, capped, waveOf, freshWave}
-use Rattle.rules.specs.Recording.{Lines, gap, cycle, count, NoReset, Asked, Began, LastStart, startWith, Owned}
+use Rattle.rules.specs.State.{isOwned, askedOf, twiceOf, capped, waveOf, freshWave}
+use Rattle.rules.specs.Recording.{Lines, gap, cycle, count, NoReset, Asked, Began, LastStart, startWith, Owned, LastOwned}
 use Rattle.rules.specs.Thirteen.{Rule8a, Rule8b, Rule8c, Rule9, Rule10, Rule11}
 use Rattle.rules.proofs.Places.{below, same-place, more, less, alone, count-none, clash, and-pair, not-off, or-split, or-left, or-right, itself, not-iff, leb-iff, both-imply-iff}
 
@@ -20,7 +22,7 @@ use Rattle.rules.proofs.Places.{below, same-place, more, less, alone, c
 abbrev pub Forward : Lines → ℕ → Type 0
 Forward r i = (m : ℕ) → 1 ≤ m → m ≤ i → 1 ≤ gap r m
 
-later : (r : Lines) (i k : ℕ) → Forward r i → k < i → cycle r k < cycle r i
+pub later : (r : Lines) (i k : ℕ) → Forward r i → k < i → cycle r k < cycle r i
 later r zero k f lt = absurd (omega arith)
 later r (suc i) k f lt =
     let g = f (suc i) (omega arith) (omega arith) in
@@ -231,11 +233,21 @@ ride-turn r i b s a t h q nr g st le =
         let z = none-lower r i b a (r i .arb) (h .least) lt in
         let y = this in omega arith
 
+-- ---- the owner that the judge keeps
+-- nobody, there being no START of a wave since the reset; or the slot that the last one's ARB shows
+abbrev pub OwnedBy : Lines → ℕ → Owner → Type 0
+OwnedBy r i Nobody = (m : ℕ) → Owned r i m → ⊥
+OwnedBy r i (Slot slot) = (m : ℕ) × LastOwned r i m × (slot ≡ r m .arb)
+
+owned-exact : (r : Lines) (i : ℕ) (o : Owner) → OwnedBy r i o → (isOwned o ≡ true) ↔ ((m : ℕ) × Owned r i m)
+owned-exact r i Nobody h = (λ e. absurd (false≢true e), λ p. absurd (h (p .0) (p .1)))
+owned-exact r i (Slot slot) (m, l, same) = (λ _. (m, l .owned), λ _. refl)
+
 -- ---- the judge's wave before record i
 pub record WaveIs (r : Lines) (i : ℕ) (w : Wave) : Type 0 where
   rqst : w .rqst ≡ last r i
   prior : w .prior ≡ prior r i
-  owned : (w .owned ≡ true) ↔ ((m : ℕ) × Owned r i m)
+  pub owner : OwnedBy r i (w .owner)
   ride : Riding r i (w .since) (w .arb) (w .turn)
 
 asked-is : (r : Lines) (i : ℕ) (w : Wave) → WaveIs r i w → askedOf w (gap r i) ≡ asked r i
@@ -244,43 +256,56 @@ asked-is r i w h = ap (λ x. eqb (gap r i) 1 && x) (h .rqst)
 twice-is : (r : Lines) (i : ℕ) (w : Wave) → WaveIs r i w → twiceOf w (gap r i) ≡ twice r i
 twice-is r i w h = ap (λ x. eqb (gap r i) 1 && x || eqb (gap r i) 2 && w .rqst) (h .prior) ∙ ap (λ x. eqb (gap r i) 1 && prior r i || eqb (gap r i) 2 && x) (h .rqst)
 
+-- what the judge knows of RQST one cycle before is what the recording has
+pub asked-of : (r : Lines) (i : ℕ) (w : Wave) → Forward r i → WaveIs r i w → (askedOf w (gap r i) ≡ true) ↔ Asked r i 1
+asked-of r i w f h = rw (asked-is r i w h) (asked-exact r i f)
+
 pub wave-fresh : (r : Lines) → WaveIs r zero freshWave
-wave-fresh r = record { rqst = refl; prior = refl; owned = (λ e. absurd (false≢true e), λ p. absurd (let z = p .1 .earlier in omega arith)); ride = off refl refl refl refl }
+wave-fresh r = record { rqst = refl; prior = refl; owner = λ m o. (let z = o .earlier in omega arith); ride = off refl refl refl refl }
 
 pub wave-reset : (r : Lines) (i : ℕ) → r i .reset ≡ true → WaveIs r (suc i) freshWave
 wave-reset r i e =
     record {
       rqst = sym (rw e (and-false (r i .rqst)));
       prior = sym (rw e);
-      owned = (λ q. absurd (false≢true q), λ p. clash e (p .1 .unbroken i (let z = p .1 .earlier in omega arith) (omega arith)));
+      owner = λ m o. clash e (o .unbroken i (let z = o .earlier in omega arith) (omega arith));
       ride = off (rw e (and-false (r i .rqst))) refl refl refl;
     }
 
-owned-next : (r : Lines) (i : ℕ) (p : Bool) → Forward r i → r i .reset ≡ false → (p ≡ true) ↔ ((m : ℕ) × Owned r i m) → ((p || r i .start && asked r i) ≡ true) ↔ ((m : ℕ) × Owned r (suc i) m)
-owned-next r i p f nr h = (
-  λ e. or-split p (r i .start && asked r i) e
-      (λ q. let o = h .0 q in let k = o .0 in (
-        k,
-        record {
-          earlier = (let z = o .1 .earlier in omega arith);
-          starts = o .1 .starts;
-          unbroken = more (λ m. r m .reset ≡ false) k i (o .1 .unbroken) nr;
-          asked = o .1 .asked;
-        },
-      ))
-      (λ q. let z = and-both (r i .start) (asked r i) q in (
-        i,
-        record {
-          earlier = omega arith;
-          starts = z .0;
-          unbroken = alone (λ m. r m .reset ≡ false) i nr;
-          asked = asked-exact r i f .0 (z .1);
-        },
-      )),
-  λ o. let k = o .0 in below k i (o .1 .earlier)
-      (λ lt. or-left (r i .start && asked r i) (h .1 (k, record { earlier = lt; starts = o .1 .starts; unbroken = less (λ m. r m .reset ≡ false) k i (o .1 .unbroken); asked = o .1 .asked })))
-      (λ e. or-right p (and-pair (subst (λ m. r m .start ≡ true) e (o .1 .starts)) (asked-exact r i f .1 (subst (λ m. Asked r m 1) e (o .1 .asked))))),
+owned-on : (r : Lines) (i m : ℕ) → r i .reset ≡ false → Owned r i m → Owned r (suc i) m
+owned-on r i m nr o =
+    record { earlier = omega (arith, o .earlier); starts = o .starts; unbroken = more (λ k. r k .reset ≡ false) m i (o .unbroken) nr; asked = o .asked }
+
+-- a wave's START before record i + 1 is one before record i, or is record i
+owned-below : {A : Type 0} (r : Lines) (i m : ℕ) → Forward r i → Owned r (suc i) m → (Owned r i m → A) → ((r i .start && asked r i) ≡ true → A) → A
+owned-below r i m f o p q =
+    below m i (o .earlier)
+    (λ lt. p (record { earlier = lt; starts = o .starts; unbroken = less (λ k. r k .reset ≡ false) m i (o .unbroken); asked = o .asked }))
+    (λ e. q (and-pair (subst (λ k. r k .start ≡ true) e (o .starts)) (asked-exact r i f .1 (subst (λ k. Asked r k 1) e (o .asked)))))
+
+-- a START of a wave makes its master the owner
+owner-now : (r : Lines) (i : ℕ) → Forward r i → r i .reset ≡ false → (r i .start && asked r i) ≡ true → OwnedBy r (suc i) (Slot (r i .arb))
+owner-now r i f nr e =
+    let z = and-both (r i .start) (asked r i) e in (
+      i,
+      record {
+        owned = record { earlier = omega arith; starts = z .0; unbroken = alone (λ m. r m .reset ≡ false) i nr; asked = asked-exact r i f .0 (z .1) };
+        none = λ n gt o. (let lt = o .earlier in omega arith);
+      },
+      refl,
+    )
+
+-- any other record leaves the owner
+owner-stays : (r : Lines) (i : ℕ) (o : Owner) → Forward r i → r i .reset ≡ false → (r i .start && asked r i) ≡ false → OwnedBy r i o → OwnedBy r (suc i) o
+owner-stays r i Nobody f nr e h = λ m o. owned-below r i m f o (h m) (λ t. clash t e)
+owner-stays r i (Slot s) f nr e (m, l, same) = (
+  m,
+  record { owned = owned-on r i m nr (l .owned); none = λ n gt o. owned-below r i n f o (l .none n gt) (λ t. clash t e) },
+  same,
 )
+
+owner-next : (r : Lines) (i : ℕ) (o : Owner) → Forward r i → r i .reset ≡ false → OwnedBy r i o → OwnedBy r (suc i) (cond (r i .start && asked r i) (Slot (r i .arb)) o)
+owner-next r i o f nr h = choice (OwnedBy r (suc i)) (r i .start && asked r i) (owner-now r i f nr) (λ e. owner-stays r i o f nr e h)
 
 ride-next : (r : Lines) (i : ℕ) (w : Wave) → Riding r i (w .since) (w .arb) (w .turn) → r i .reset ≡ false → (last r i ≡ true → (gap r i ≡ 1)) → (r i .start ≡ true → asked r i ≡ true → r i .arb ≤ w .arb)
     → (q : Bool) → r i .rqst ≡ q → (st : Bool) → r i .start ≡ st → (y : Bool) → asked r i ≡ y
@@ -299,7 +324,7 @@ wave-next r i w f h nr r9 r10 =
     record {
       rqst = rw (nr, and-true (r i .rqst));
       prior = asked-is r i w h ∙ rw nr;
-      owned = subst (λ y. ((w .owned || r i .start && y) ≡ true) ↔ ((m : ℕ) × Owned r (suc i) m)) (sym same) (owned-next r i (w .owned) f nr (h .owned));
+      owner = subst (λ y. OwnedBy r (suc i) (cond (r i .start && y) (Slot (r i .arb)) (w .owner))) (sym same) (owner-next r i (w .owner) f nr (h .owner));
       ride = ride-next r i w (h .ride) nr
           (λ act. eqb-true (gap r i) 1 (and-both (eqb (gap r i) 1) (r i .rqst || r i .start) (implied (w .rqst) _ r9 (h .rqst ∙ act)) .0))
           (λ s y. leb-true (r i .arb) (w .arb) (implied (r i .start && askedOf w (gap r i)) _ r10 (and-pair s (same ∙ y))))
@@ -369,9 +394,9 @@ of-wave r i x P test = (
   λ g. implying (r i .start && asked r i) x (λ e. let z = and-both (r i .start) (asked r i) e in test (z .1) .1 (g (z .0))),
 )
 
-pub rule8a-exact : (r : Lines) (i : ℕ) (w : Wave) → Forward r i → WaveIs r i w → (rule8a (r i .start) (askedOf w (gap r i)) (w .owned) ≡ true) ↔ Rule8a r i
+pub rule8a-exact : (r : Lines) (i : ℕ) (w : Wave) → Forward r i → WaveIs r i w → (rule8a (r i .start) (askedOf w (gap r i)) (isOwned (w .owner)) ≡ true) ↔ Rule8a r i
 rule8a-exact r i w f h =
-    rw (asked-is r i w h) (both-imply-iff (r i .start) (not (asked r i)) (w .owned) (itself (r i .start)) (not-iff (asked r i) (asked-exact r i f)) (λ _ _. h .owned))
+    rw (asked-is r i w h) (both-imply-iff (r i .start) (not (asked r i)) (isOwned (w .owner)) (itself (r i .start)) (not-iff (asked r i) (asked-exact r i f)) (λ _ _. owned-exact r i (w .owner) (h .owner)))
 
 pub rule8b-exact : (r : Lines) (i : ℕ) (w : Wave) → Forward r i → WaveIs r i w → (rule8b (r i .start) (askedOf w (gap r i)) (twiceOf w (gap r i)) ≡ true) ↔ Rule8b r i
 rule8b-exact r i w f h =

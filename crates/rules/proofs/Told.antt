@@ -31,18 +31,18 @@ use Rattle.rules.proofs.Reach.{Ended, Reached, reached}
 use Rattle.rules.proofs.Exactly.{rightly-only, totals-only, reached-exact}
 
 -- ---- what a verdict of conforming says
-refused-not : (n : ℕ) → conforms (refusedBy n) ≡ false
+pub refused-not : (n : ℕ) → conforms (refusedBy n) ≡ false
 unfolding refusedBy
 refused-not n =
     let P : Verdict → Type 0 = λ v. conforms v ≡ false in
     choice P (eqb n 5) (λ _. refl) (λ _. choice P (eqb n 8) (λ _. refl) (λ _. refl))
 
-accepted-of : (bytes : List ℕ) (j : Judge) (t : Tally) → conforms (outcomeOf bytes j t .verdict) ≡ true → refusalOf (length bytes) j t ≡ 0
+pub accepted-of : (bytes : List ℕ) (j : Judge) (t : Tally) → conforms (outcomeOf bytes j t .verdict) ≡ true → refusalOf (length bytes) j t ≡ 0
 accepted-of bytes j t e =
     by-test (eqb (refusalOf (length bytes) j t) 0) (eqb-true (refusalOf (length bytes) j t) 0) (λ f.
     absurd (false≢true (sym (refused-not (refusalOf (length bytes) j t)) ∙ ap (λ (o : Outcome). conforms (o .verdict)) (sym (outcome-refused bytes j t (eqb-false _ 0 f))) ∙ e)))
 
-open-of : (p : Progress) → conforms (verdictOf p) ≡ true → p .rule ≡ 0
+pub open-of : (p : Progress) → conforms (verdictOf p) ≡ true → p .rule ≡ 0
 unfolding verdictOf
 open-of p e =
     by-test (eqb (p .rule) 0) (eqb-true (p .rule) 0) (λ f. absurd (false≢true (sym (ap conforms (cond-false _ _ f)) ∙ e)))
@@ -55,7 +55,7 @@ fresh-is limit j e =
     (leb-true 1 limit (z .0), leb-true limit 16 (z .1), sym (ap (λ (x : Answer Judge). x .value) (sym (cond-true _ _ a) ∙ e))))
     (λ a. let z : _≡_ {A = ℕ} 3 0 = ap (λ (x : Answer Judge). x .number) (sym (cond-false _ _ a) ∙ e) in absurd (omega arith))
 
-fresh-of : (limit : ℕ) → 1 ≤ limit → limit ≤ 16 → freshOf limit ≡ accepted (freshJudge limit)
+pub fresh-of : (limit : ℕ) → 1 ≤ limit → limit ≤ 16 → freshOf limit ≡ accepted (freshJudge limit)
 unfolding freshOf
 fresh-of limit low high = cond-true _ _ (both-and (leb 1 limit) (leb limit 16) (le-leb 1 limit low) (le-leb limit 16 high))
 
@@ -139,7 +139,7 @@ pub zero-sound : SoundTally zeroTally
 zero-sound = record { span = omega arith; starts = omega arith; acks = omega arith; aborted = omega arith }
 
 -- the place that the judge has come to
-reached-records : (limit : ℕ) (bytes : List ℕ) (n : ℕ) (j : Judge) (t : Tally) → Reached limit (recordingIn bytes) n (from j t) → t .records ≡ n
+pub reached-records : (limit : ℕ) (bytes : List ℕ) (n : ℕ) (j : Judge) (t : Tally) → Reached limit (recordingIn bytes) n (from j t) → t .records ≡ n
 reached-records limit bytes n j t h = go (h .ends)
   where
     go : Ended limit (recordingIn bytes) n (from j t) (h .place) → t .records ≡ n

@@ -7,6 +7,7 @@ use mathlib.Core.Path.{_≡_}
 use Rattle.rules.specs.declared.Judge.{Judge}
 use Rattle.rules.specs.declared.Tally.{Tally}
 use Rattle.rules.specs.declared.Transfer.the-variants.{Idle}
+use Rattle.rules.specs.declared.Owner.the-variants.{Slot}
 use Rattle.rules.specs.declared.Verdict.the-variants.{Breach}
 use Rattle.rules.specs.Rules.{rule8b, rule8c}
 use Rattle.rules.specs.State.{askedOf, twiceOf, zeroTally}
@@ -34,7 +35,7 @@ stray since =
       seen = true;
       stamp = 0;
       transfer = Idle;
-      wave = record { rqst = true; prior = false; owned = true; since = since; arb = 5; turn = 1 };
+      wave = record { rqst = true; prior = false; owner = Slot 5; since = since; arb = 5; turn = 1 };
     }
 
 -- in the cycle after it a START fails both tests, and 8b is told

@@ -111,3 +111,8 @@ pub record Owned (r : Lines) (i m : ℕ) : Type 0 where
   pub starts : r m .start ≡ true
   pub unbroken : NoReset r m i
   pub asked : Asked r m 1
+
+-- and the last such START: the owner is the slot that its ARB shows
+pub record LastOwned (r : Lines) (i m : ℕ) : Type 0 where
+  pub owned : Owned r i m
+  pub none : (n : ℕ) → m < n → Owned r i n → ⊥

@@ -15,7 +15,7 @@ use Rattle.rules.specs.declared.Rule.{Rule}
 use Rattle.rules.specs.declared.Progress.{Progress}
 use Rattle.rules.specs.Names.{only, kind8a, kind8b, kind8c, noRule}
 use Rattle.rules.specs.Rules.{rule1, rule2, rule3, rule4, rule5, rule6, rule7, rule8a, rule8b, rule8c, rule9, rule10, rule11, rule12, rule13}
-use Rattle.rules.specs.State.{isOpen, openWords, openStrobes, openAge, askedOf, twiceOf, diffOf, judgeOf, tallyOf}
+use Rattle.rules.specs.State.{isOpen, openWords, openStrobes, openAge, isOwned, askedOf, twiceOf, diffOf, judgeOf, tallyOf}
 
 -- a record as sixteen bytes have it: its lines and its spare bits
 pub record Taken : Type 0 where
@@ -43,7 +43,7 @@ laterRules j r d =
     ∷ (only 5, rule5 (isOpen (j .transfer)) (r .start) (r .ack))
     ∷ (only 6, rule6 (r .start) (r .ack) (r .tm1) (r .tm0))
     ∷ (only 7, rule7 (r .start) (r .ack) (wordsOf (r .tm0) (r .ad)))
-    ∷ (kind8a, rule8a (r .start) (askedOf (j .wave) d) (j .wave .owned))
+    ∷ (kind8a, rule8a (r .start) (askedOf (j .wave) d) (isOwned (j .wave .owner)))
     ∷ (kind8b, rule8b (r .start) (askedOf (j .wave) d) (twiceOf (j .wave) d))
     ∷ (kind8c, rule8c (r .start) (askedOf (j .wave) d) (j .wave .since + d))
     ∷ (only 9, rule9 (j .wave .rqst) d (r .rqst) (r .start))

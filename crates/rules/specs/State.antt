@@ -10,37 +10,48 @@ use Rattle.rules.specs.declared.Wave.{Wave}
 use Rattle.rules.specs.declared.Tally.{Tally}
 use Rattle.rules.specs.declared.Transfer.{Transfer}
 use Rattle.rules.specs.declared.Transfer.the-variants.{Idle, Open}
+use Rattle.rules.specs.declared.Owner.{Owner}
+use Rattle.rules.specs.declared.Owner.the-variants.{Nobody, Slot}
 use Rattle.rules.specs.Rules.{difference, strobe}
 
 -- ---- the transfer
 -- a transfer is open
 abbrev pub isOpen : Transfer → Bool
 isOpen Idle = false
-isOpen (Open words strobes age) = true
+isOpen (Open words strobes age busy) = true
 
--- its words, strobes and age; 0 where none is open
+-- its words, strobes, age and busy cycles; 0 where none is open
 abbrev pub openWords : Transfer → ℕ
 openWords Idle = 0
-openWords (Open words strobes age) = words
+openWords (Open words strobes age busy) = words
 
 abbrev pub openStrobes : Transfer → ℕ
 openStrobes Idle = 0
-openStrobes (Open words strobes age) = strobes
+openStrobes (Open words strobes age busy) = strobes
 
 abbrev pub openAge : Transfer → ℕ
 openAge Idle = 0
-openAge (Open words strobes age) = age
+openAge (Open words strobes age busy) = age
 
--- an open transfer ages by the cycles since the last record, and counts a strobe
+abbrev pub openBusy : Transfer → ℕ
+openBusy Idle = 0
+openBusy (Open words strobes age busy) = busy
+
+-- an open transfer ages by the cycles since the last record, is busy in them, and counts a strobe
 abbrev pub agedOf : Transfer → Bool → Bool → Bool → ℕ → Transfer
 agedOf Idle start ack tm0 d = Idle
-agedOf (Open words strobes age) start ack tm0 d = Open words (strobes + one (strobe words start ack tm0)) (age + d)
+agedOf (Open words strobes age busy) start ack tm0 d = Open words (strobes + one (strobe words start ack tm0)) (age + d) (busy + d)
 
--- ACK ends a transfer, and with START it opens none; a START without ACK opens one of so many words
+-- ACK ends a transfer, and with START it opens none; a START without ACK opens one of so many words, which is busy in this cycle
 abbrev pub transferOf : Transfer → Bool → Bool → Bool → ℕ → ℕ → Transfer
-transferOf t start ack tm0 words d = cond ack Idle (cond start (Open words 0 0) (agedOf t start ack tm0 d))
+transferOf t start ack tm0 words d = cond ack Idle (cond start (Open words 0 0 1) (agedOf t start ack tm0 d))
 
 -- ---- the wave
+-- there is an owner, who may park
+abbrev pub isOwned : Owner → Bool
+isOwned Nobody = false
+isOwned (Slot slot) = true
+
 -- RQST one cycle before a record that stands d cycles after the last one: a missing cycle has no active line
 abbrev pub askedOf : Wave → ℕ → Bool
 askedOf w d = eqb d 1 && w .rqst
@@ -60,7 +71,7 @@ waveOf w rqst start arb d =
     record {
       rqst = rqst;
       prior = askedOf w d;
-      owned = w .owned || start && askedOf w d;
+      owner = cond (start && askedOf w d) (Slot arb) (w .owner);
       since = cond rqst (cond (start && askedOf w d) 0 (capped (w .since + d))) 3;
       arb = cond rqst (cond (start && askedOf w d) arb (w .arb)) 15;
       turn = cond rqst (cond (start && askedOf w d) (cond (eqb arb (w .arb)) (w .turn + 1) 1) (w .turn)) 0;
@@ -68,7 +79,7 @@ waveOf w rqst start arb d =
 
 -- no wave, and no START of one since the reset
 abbrev pub freshWave : Wave
-freshWave = record { rqst = false; prior = false; owned = false; since = 3; arb = 15; turn = 0 }
+freshWave = record { rqst = false; prior = false; owner = Nobody; since = 3; arb = 15; turn = 0 }
 
 -- ---- the state
 -- "A recording is read as following a reset"

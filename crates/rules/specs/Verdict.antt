@@ -10,6 +10,7 @@ use Rattle.basics.specs.Answers.{Answer, accepted, refused}
 use Rattle.rules.specs.declared.Judge.{Judge}
 use Rattle.rules.specs.declared.Tally.{Tally}
 use Rattle.rules.specs.declared.Transfer.the-variants.{Idle}
+use Rattle.rules.specs.declared.Owner.the-variants.{Nobody}
 use Rattle.rules.specs.declared.Progress.{Progress}
 use Rattle.rules.specs.declared.Broken.{Broken}
 use Rattle.rules.specs.declared.Verdict.{Verdict}
@@ -31,7 +32,7 @@ noJudge =
       seen = false;
       stamp = 0;
       transfer = Idle;
-      wave = record { rqst = false; prior = false; owned = false; since = 0; arb = 0; turn = 0 };
+      wave = record { rqst = false; prior = false; owner = Nobody; since = 0; arb = 0; turn = 0 };
     }
 
 -- refusal 3: "hold limit not 1 to 16"

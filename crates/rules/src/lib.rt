@@ -1,13 +1,25 @@
 // The judge of recordings (document 01, "The judge"): its state, its tally and its verdict. The code that judges
 // stands in the crates `breach` (which rule a record breaks) and `judge`.
 ghost use mathlib.Core.Path.{_≡_};
-ghost use Rattle.rules.specs.State.{isOpen, freshWave, zeroTally};
-ghost use Rattle.rules.specs.Verdict.{freshAnswer, freshOf};
+ghost use Rattle.rules.specs.State.{isOpen, isOwned, freshWave, zeroTally};
+ghost use Rattle.rules.specs.Verdict.{freshAnswer, freshOf, refusedBy};
 
-// The transfer that is open before the next record, with its words, the strobes counted so far and its age in cycles.
+// The transfer that is open before the next record, with its words, the strobes counted so far, its age in cycles, and the cycles that it has been
+// busy, its START's with them.
 pub enum Transfer {
     Idle,
-    Open { words: u8, strobes: u8, age: u16 },
+    Open {
+        words: u8,
+        strobes: u8,
+        age: u16,
+        busy: u32,
+    },
+}
+
+// The owner of the bus, who may park: the slot of the last START of a wave since the reset, or nobody where there was none.
+pub enum Owner {
+    Nobody,
+    Slot(u8),
 }
 
 // What the judge keeps of RQST, of the wave and of its STARTs.
@@ -15,8 +27,7 @@ pub struct Wave {
     // RQST in the last record, and one cycle before that record
     pub rqst: bool,
     pub prior: bool,
-    // a wave's START since the last reset: there is an owner, who may park
-    pub owned: bool,
+    pub owner: Owner,
     // cycles from the wave's last START to the last record, 3 for three or more and where the wave has had none
     pub since: u8,
     // ARB at that START, 15 where there is none, and how many STARTs in a row had it
@@ -106,8 +117,32 @@ pub fn is_open(transfer: Transfer) -> bool
             words: _,
             strobes: _,
             age: _,
+            busy: _,
         } => true,
     }
+}
+
+// Whether there is an owner.
+pub fn is_owned(owner: Owner) -> bool
+    ensures { λ r. ⌜ r ≡ isOwned owner ⌝ }
+{
+    match owner {
+        Owner::Nobody => false,
+        Owner::Slot(_) => true,
+    }
+}
+
+// The verdict of a call that is refused by this number.
+pub fn refused_by(number: u8) -> Verdict
+    ensures { λ r. ⌜ r ≡ refusedBy number ⌝ }
+{
+    if number == 5 {
+        return Verdict::OutOfBounds;
+    }
+    if number == 8 {
+        return Verdict::TooMany;
+    }
+    Verdict::Torn
 }
 
 impl Wave {
@@ -118,7 +153,7 @@ impl Wave {
         Wave {
             rqst: false,
             prior: false,
-            owned: false,
+            owner: Owner::Nobody,
             since: 3,
             arb: 15,
             turn: 0,

@@ -1,5 +1,6 @@
 // The library, callable from outside: reads calls of 64 bytes from standard input until it ends and writes an answer of 64 bytes for each.
 // Byte 0 of a call is its operation, byte 0 of an answer the refusal number. CALLS.md in this crate's folder lists the operations.
+mod account;
 mod blocks;
 mod cycles;
 mod lines;
@@ -66,7 +67,10 @@ fn on_bench(op: u8, call: &[u8; 64], out: &mut [u8; 64], bench: Bench) -> Bench 
         19 => recordings::fresh(call, out, bench),
         20 => recordings::judge(call, out, bench),
         21 => recordings::set_tally(call, bench),
-        _ => recordings::set_judge(call, bench),
+        22 => recordings::set_judge(call, bench),
+        23 => account::judge(call, out, bench),
+        24 => account::put_share(call, out, bench),
+        _ => account::set_entry(call, bench),
     }
 }
 
@@ -87,7 +91,7 @@ fn answer(
         bus = on_bus(op, call, out, bus);
     } else if (11 <= op) & (op <= 18) {
         sizes = on_blocks(op, call, out, sizes, states, copies, memory);
-    } else if (19 <= op) & (op <= 22) {
+    } else if (19 <= op) & (op <= 25) {
         bench = on_bench(op, call, out, bench);
     } else {
         on_lines(op, call, out);
@@ -99,7 +103,7 @@ fn answer(
     }
 }
 
-// A fresh bus and a fresh judge at limit 16, no totals, and the tables lent for 64 blocks.
+// A fresh bus and a fresh judge at limit 16, no totals, nothing used, and the tables lent for 64 blocks.
 fn first_desk() -> Desk {
     let bus = cycles::first_bus();
     let bench = recordings::first_bench();

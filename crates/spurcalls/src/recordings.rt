@@ -1,10 +1,13 @@
-// Calls 19 to 22: the judge and its tally, a recording's next bytes, and both set raw.
+// Calls 19 to 22: the judge and its tally, a recording's next bytes, and both set raw. The account is kept with them, and is the calls' of `account`.
 ghost use mathlib.Core.Path.{_≡_};
 ghost use Rattle.rules.specs.Verdict.{outcomeOf, judgedOf};
+use crate::account;
 use crate::numbers;
+use entries::Entry;
 use rules::Fresh;
 use rules::Judge;
 use rules::Judged;
+use rules::Owner;
 use rules::Tally;
 use rules::Transfer;
 use rules::Verdict;
@@ -14,6 +17,7 @@ use rules::Wave;
 pub(crate) struct Bench {
     pub(crate) judge: Judge,
     pub(crate) tally: Tally,
+    pub(crate) account: [Entry; 17],
 }
 
 // A judge of zeros, which the library would refuse.
@@ -21,7 +25,7 @@ fn no_judge() -> Judge {
     let wave = Wave {
         rqst: false,
         prior: false,
-        owned: false,
+        owner: Owner::Nobody,
         since: 0,
         arb: 0,
         turn: 0,
@@ -35,9 +39,10 @@ fn no_judge() -> Judge {
     }
 }
 
-// Before the first call: a fresh judge, limit 16, that the library makes, and a tally of zeros.
+// Before the first call: a fresh judge, limit 16, that the library makes, and a tally and an account of zeros.
 pub(crate) fn first_bench() -> Bench {
     let tally = Tally::zero();
+    let account = account::zeros();
     let made = Judge::fresh(16);
     let judge = match made {
         Fresh::Ready(ready) => ready,
@@ -46,18 +51,21 @@ pub(crate) fn first_bench() -> Bench {
     Bench {
         judge: judge,
         tally: tally,
+        account: account,
     }
 }
 
-// Call 19. A refused one leaves judge and tally.
+// Call 19. A refused one leaves judge, tally and account.
 pub(crate) fn fresh(call: &[u8; 64], out: &mut [u8; 64], bench: Bench) -> Bench {
     let made = Judge::fresh(call[1]);
     match made {
         Fresh::Ready(judge) => {
             let tally = Tally::zero();
+            let account = account::zeros();
             Bench {
                 judge: judge,
                 tally: tally,
+                account: account,
             }
         }
         Fresh::BadLimit => {
@@ -115,7 +123,16 @@ fn judge_lent(bytes: &[u8], state: Judge, totals: Tally) -> Answered
     }
 }
 
-// Call 20.
+// The answer of a judging call.
+pub(crate) fn put_judged(out: &mut [u8; 64], judged: Judged, tally: Tally) {
+    let verdict = judged.verdict;
+    let judge = judged.judge;
+    let transfer = judge.transfer;
+    put_verdict(out, verdict);
+    put_totals(out, tally, rules::is_open(transfer));
+}
+
+// Call 20. It judges without the account, and leaves it as it is.
 pub(crate) fn judge(call: &[u8; 64], out: &mut [u8; 64], bench: Bench) -> Bench {
     let bytes = numbers::bytes_from(call, 2);
     let n = numbers::lent_bytes(&bytes, numbers::least(numbers::size(call[1]), 48));
@@ -124,14 +141,13 @@ pub(crate) fn judge(call: &[u8; 64], out: &mut [u8; 64], bench: Bench) -> Bench 
     let answered = judge_lent(&bytes[..n], before, so_far);
     let judged = answered.judged;
     let tally = answered.tally;
-    let verdict = judged.verdict;
+    put_judged(out, judged, tally);
     let judge = judged.judge;
-    let transfer = judge.transfer;
-    put_verdict(out, verdict);
-    put_totals(out, tally, rules::is_open(transfer));
+    let account = bench.account;
     Bench {
         judge: judge,
         tally: tally,
+        account: account,
     }
 }
 
@@ -145,18 +161,22 @@ pub(crate) fn set_tally(call: &[u8; 64], bench: Bench) -> Bench {
         aborted: numbers::word_at(call, 21),
     };
     let judge = bench.judge;
+    let account = bench.account;
     Bench {
         judge: judge,
         tally: tally,
+        account: account,
     }
 }
 
+// A transfer set open has been busy for its age and one cycle.
 fn transfer_of(open: bool, words: u8, strobes: u8, age: u16) -> Transfer {
     if open {
         Transfer::Open {
             words: words,
             strobes: strobes,
             age: age,
+            busy: age as u32 + 1,
         }
     } else {
         Transfer::Idle
@@ -169,10 +189,11 @@ pub(crate) fn set_judge(call: &[u8; 64], bench: Bench) -> Bench {
     let transfer = transfer_of(numbers::flag(call[2]), call[5], call[6], age);
     let before = bench.judge;
     let kept = before.wave;
+    let owner = kept.owner;
     let wave = Wave {
         rqst: kept.rqst,
         prior: kept.prior,
-        owned: kept.owned,
+        owner: owner,
         since: kept.since,
         arb: call[8],
         turn: call[7],
@@ -185,8 +206,10 @@ pub(crate) fn set_judge(call: &[u8; 64], bench: Bench) -> Bench {
         wave: wave,
     };
     let tally = bench.tally;
+    let account = bench.account;
     Bench {
         judge: judge,
         tally: tally,
+        account: account,
     }
 }

@@ -6,7 +6,7 @@ use mathlib.Core.Path.{_≡_, refl, sym, ap, subst, _∙_}
 use native.Mathlib.Omega.{arith}
 use lib.ListN.{length}
 use Rattle.basics.specs.Numbers.{lawfulLimit}
-use Rattle.basics.proofs.Bools.{by-test, cond-true, cond-false}
+use Rattle.basics.proofs.Bools.{cond-true, cond-false}
 use Rattle.feeding.specs.declared.Stream.{Stream}
 use Rattle.feeding.specs.declared.Fed.{Fed}
 use Rattle.feeding.specs.declared.Ending.{Ending}
@@ -19,7 +19,7 @@ use Rattle.printed.specs.Lines.{refusedLine, linesOf, pageOf}
 use Rattle.printed.proofs.LineLaws.{lines-most, refusal-most}
 use Rattle.reading.specs.declared.Said.the-variants.{Page}
 use Rattle.reading.specs.Pages.{unlawful}
-use Rattle.reading.proofs.Narrow.{narrow-same, narrow-lawful}
+use Rattle.reading.proofs.Narrow.{begun-lawful as begins-lawful, begun-unlawful as begins-unlawful}
 use Rattle.reading.proofs.Printing.{holds-put, page-fits, page-says, Telling, told-says}
 use Rattle.spurjudge.specs.declared.Input.{Input}
 use Rattle.spurjudge.specs.Pages.{judging, standing, ReadOut, Prints}
@@ -55,19 +55,18 @@ module _ (limit : ℕ) (lawful : lawfulLimit limit ≡ true) where
       (subst (λ (x : Ending). Holds after q (linesOf x)) ee held)
 
 -- ---- the limit
-pub begun-lawful : (limit narrow : ℕ) (begun : Fed) → narrow ≡ min limit 255 → begun ≡ freshOf narrow → begun .number ≡ 0 → (lawfulLimit limit ≡ true) × (begun .stream ≡ freshStream limit)
-unfolding freshOf
-begun-lawful limit narrow begun ne be z =
-    by-test (lawfulLimit narrow)
-    (λ e. (sym (narrow-lawful limit narrow ne) ∙ e, ap (λ (r : Fed). r .stream) (be ∙ cond-true _ _ e) ∙ ap freshStream (sym (narrow-same limit narrow ne e))))
-    (λ e. let three : _≡_ {A = ℕ} 3 0 = sym (ap (λ (r : Fed). r .number) (be ∙ cond-false _ _ e)) ∙ z in absurd (omega arith))
+module _ (limit narrow : ℕ) (begun : Fed) (ne : narrow ≡ min limit 255) (be : begun ≡ freshOf narrow) where
+  pub begun-lawful : begun .number ≡ 0 → (lawfulLimit limit ≡ true) × (begun .stream ≡ freshStream limit)
+  unfolding freshOf
+  begun-lawful z =
+      let h = begins-lawful (λ (r : Fed). r .number) (λ n. record { number = 0; stream = freshStream n }) _ begun limit narrow ne be (λ e. omega arith) z in
+      (h .0, ap (λ (r : Fed). r .stream) (h .1))
 
-refused-limit : (limit narrow : ℕ) (begun : Fed) → narrow ≡ min limit 255 → begun ≡ freshOf narrow → (begun .number ≡ 0 → ⊥) → (lawfulLimit limit ≡ false) × (begun .number ≡ 3)
-unfolding freshOf
-refused-limit limit narrow begun ne be nz =
-    by-test (lawfulLimit narrow)
-    (λ e. absurd (nz (ap (λ (r : Fed). r .number) (be ∙ cond-true _ _ e))))
-    (λ e. (sym (narrow-lawful limit narrow ne) ∙ e, ap (λ (r : Fed). r .number) (be ∙ cond-false _ _ e)))
+  refused-limit : (begun .number ≡ 0 → ⊥) → (lawfulLimit limit ≡ false) × (begun .number ≡ 3)
+  unfolding freshOf
+  refused-limit nz =
+      let h = begins-unlawful (λ (r : Fed). r .number) (λ n. record { number = 0; stream = freshStream n }) _ begun limit narrow ne be (λ n. refl) nz in
+      (h .0, ap (λ (r : Fed). r .number) (h .1))
 
 pub refused-says : (limit narrow : ℕ) (begun : Fed) (text after : List ℕ) (q : Place) → length text ≡ 256 → narrow ≡ min limit 255 → begun ≡ freshOf narrow → (begun .number ≡ 0 → ⊥)
     → q ≡ movedBy (length text) front (length (refusedLine (begun .number))) → after ≡ putAt text front (refusedLine (begun .number)) → Prints limit after (Page (q .at))

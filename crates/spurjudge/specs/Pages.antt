@@ -1,23 +1,14 @@
 -- What the judging program prints, from the bytes that it read.
 use Prim.Native.Nat.{ℕ}
-use mathlib.Core.Bool.{cond}
 use mathlib.Core.List.{List}
-use lib.Dec.{ltb}
 use Rattle.basics.specs.Numbers.{lawfulLimit}
 use Rattle.feeding.specs.declared.Stream.{Stream}
 use Rattle.feeding.specs.State.{goes, freshStream, fedOf}
-use Rattle.text.specs.declared.Number.{Number}
-use Rattle.text.specs.declared.Number.the-variants.{Is, NotANumber}
-use Rattle.text.specs.Numbers.{numberOf}
 use Rattle.printed.specs.Lines.{pageOf}
 use Rattle.reading.specs.declared.Said.{Said}
 use Rattle.reading.specs.Reads.{Feeder, Standing, ReadOut as ReadOutOf}
 use Rattle.reading.specs.Pages.{Prints as PrintsOf}
 use Rattle.spurjudge.specs.declared.Input.{Input}
-
--- the hold limit, from the number of the program's words, its own name among them, and the second of them: 16 where there is none
-unfoldable pub limitGiven : ℕ → List ℕ → Number
-limitGiven count second = cond (ltb count 2) (Is 16) (cond (ltb 2 count) NotANumber (numberOf second))
 
 -- what is read is fed to the judge, and no more of it counts once the judging has ended
 abbrev pub judging : Feeder Stream

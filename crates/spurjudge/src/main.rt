@@ -9,7 +9,7 @@ ghost use lib.ListN.{length};
 ghost use Rattle.basics.specs.Numbers.{lawfulLimit};
 ghost use Rattle.feeding.specs.State.{freshStream};
 ghost use Rattle.reading.specs.Reads.{takenIn, afterRead};
-ghost use Rattle.spurjudge.specs.Pages.{limitGiven, judging, standing, ReadOut, Prints};
+ghost use Rattle.spurjudge.specs.Pages.{judging, standing, ReadOut, Prints};
 use feeding::Stream;
 use libc::STDERR_FILENO;
 use libc::STDOUT_FILENO;
@@ -131,23 +131,10 @@ fn judge(limit: u64) {
     }
 }
 
-// The hold limit: 16, or what the program's one argument says.
-fn limit_given(words: usize, second: &[u8]) -> Number
-    ensures { λ r. ⌜ r ≡ limitGiven words (now (second .entry)) ⌝ }
-{
-    if words < 2 {
-        return Number::Is(16);
-    }
-    if 2 < words {
-        return Number::NotANumber;
-    }
-    text::number_in(second)
-}
-
 fn main() {
     let mut word = io::buffer();
     let size = os::arg(1, &mut word);
-    let given = limit_given(os::arg_count(), &word[..size]);
+    let given = reading::limit_given(os::arg_count(), &word[..size]);
     match given {
         Number::Is(limit) => judge(limit),
         Number::NotANumber => complain(b"spurjudge: the hold limit is to be one number\n"),

@@ -21,6 +21,7 @@ use feeding::Stop;
 use feeding::Stream;
 use rules::Fresh;
 use rules::Judge;
+use rules::Owner;
 use rules::Tally;
 use rules::Transfer;
 use rules::Verdict;
@@ -173,7 +174,7 @@ fn no_judge() -> Judge
     let wave = Wave {
         rqst: false,
         prior: false,
-        owned: false,
+        owner: Owner::Nobody,
         since: 0,
         arb: 0,
         turn: 0,

@@ -71,6 +71,9 @@ asked-long-requires c κs = search needs
 first-kind-requires-2 : tie.Need-first-kind-requires-2
 first-kind-requires-2 c κs = search needs
 
+is-owned-requires : tie.Need-is-owned-requires
+is-owned-requires c κs = search needs
+
 parked-by-owner-requires : tie.Need-parked-by-owner-requires
 parked-by-owner-requires c κs = search needs
 
@@ -109,7 +112,7 @@ first-requires-10 c κs = search needs
 
 returns : tie.Need-returns
 returns c =
-    let b = c .before .before .before .before .before .before .before .before .before .before .before .before in
+    let b = c .before .before .before .before .before .before .before .before .before .before .before .before .before in
     let a = b .before .before .before .before .before .before .before .before .before .before .before .before in
     let busy = a .before .before .before .before .before .before .before .before .is-open .ensures in
     let counts = a .before .before .before .before .before .before .before .counts-of .ensures in
@@ -122,7 +125,7 @@ returns c =
     also (c .before .before .before .before .before .ack-while-open .result) (c .before .before .before .before .first8 .ensures) (simp (c .before .before .before .before .before .ack-while-open .ensures, busy)) (
     also (c .before .before .before .before .before .before .before .attention-lines .result) (c .before .before .before .before .before .before .first7 .ensures) (c .before .before .before .before .before .before .before .attention-lines .ensures) (
     also (c .before .before .before .before .before .before .before .before .before .code-known .result) (c .before .before .before .before .before .before .before .before .first6 .ensures) (simp (c .before .before .before .before .before .before .before .before .before .code-known .ensures, a .before .before .before .words-owed .ensures)) (
-    also (c .before .before .before .before .before .before .before .before .before .before .before .parked-by-owner .result) (c .before .before .before .before .before .before .before .before .before .before .first-kind3 .ensures) (simp (c .before .before .before .before .before .before .before .before .before .before .before .parked-by-owner .ensures, one)) (
+    also (c .before .before .before .before .before .before .before .before .before .before .before .parked-by-owner .result) (c .before .before .before .before .before .before .before .before .before .before .first-kind3 .ensures) (simp (c .before .before .before .before .before .before .before .before .before .before .before .parked-by-owner .ensures, c .before .before .before .before .before .before .before .before .before .before .before .before .is-owned .ensures, one)) (
     also (b .before .asked-long .result) (b .first-kind2 .ensures) (simp (b .before .asked-long .ensures, one, two)) (
     also (b .before .before .before .starts-apart .result) (b .before .before .first-kind .ensures) (simp (b .before .before .before .starts-apart .ensures, one)) (
     also (b .before .before .before .before .before .request-kept .result) (b .before .before .before .before .first5 .ensures) (b .before .before .before .before .before .request-kept .ensures) (
@@ -158,6 +161,7 @@ lowest-rule-spec =
     first-kind-requires
     asked-long-requires
     first-kind-requires-2
+    is-owned-requires
     parked-by-owner-requires
     first-kind-requires-3
     code-known-requires

@@ -13,7 +13,7 @@ use Rattle.judge.proofs.after.aged.Statement.{statement}
 use Rattle.judge.proofs.after.aged.Tie as tie
 
 -- the open transfer's bounds, and its age after this record
-sound-of : (c : tie.After-one-if) → SoundOpen (c .before .before .before .before .before .transfer .given .0 .0) (c .before .before .before .before .before .transfer .given .0 .1 .0) (c .before .before .before .before .before .transfer .given .0 .1 .1 .0)
+sound-of : (c : tie.After-one-if) → SoundOpen (c .before .before .before .before .before .transfer .given .0 .0) (c .before .before .before .before .before .transfer .given .0 .1 .0) (c .before .before .before .before .before .transfer .given .0 .1 .1 .0) (c .before .before .before .before .before .transfer .given .0 .1 .1 .1 .0)
 sound-of c = subst SoundTransfer (c .before .before .before .before .before .transfer .given .1) (c .before .before .before .before .before .before .before .pre .0)
 
 young-of : (c : tie.After-one-if) → c .before .before .before .before .before .transfer .given .0 .1 .1 .0 + c .before .before .before .before .before .before .before .args .d ≤ 256
@@ -37,8 +37,11 @@ cast-older c = search needs
 add-older : tie.Need-add-older
 add-older c = omega (arith, young-of c)
 
-cast-t18 : tie.Need-cast-t18
-cast-t18 c = omega (arith, young-of c)
+add-longer : tie.Need-add-longer
+add-longer c = let h = sound-of c in omega (arith, young-of c)
+
+cast-t20 : tie.Need-cast-t20
+cast-t20 c = omega (arith, young-of c)
 
 returns : tie.Need-returns
 returns c = simp (c .enum-told .given .1)
@@ -56,6 +59,7 @@ aged-spec =
     add-with
     cast-older
     add-older
-    cast-t18
+    add-longer
+    cast-t20
     returns
     returns-2)

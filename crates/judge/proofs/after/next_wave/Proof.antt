@@ -24,6 +24,9 @@ pick-requires-3 c κs = search needs
 pick-requires-4 : tie.Need-pick-requires-4
 pick-requires-4 c κs = search needs
 
+next-owner-requires : tie.Need-next-owner-requires
+next-owner-requires c κs = search needs
+
 pick-requires-5 : tie.Need-pick-requires-5
 pick-requires-5 c κs = search needs
 
@@ -40,6 +43,7 @@ returns c =
       c .pick7 .ensures,
       c .before .pick6 .ensures,
       c .before .before .pick5 .ensures,
+      c .before .before .before .next-owner .ensures,
       c .before .before .before .before .pick4 .ensures,
       c .before .before .before .before .before .pick3 .ensures,
       b .pick2 .ensures,
@@ -59,6 +63,7 @@ next-wave-spec =
     add-pick
     pick-requires-3
     pick-requires-4
+    next-owner-requires
     pick-requires-5
     pick-requires-6
     pick-requires-7

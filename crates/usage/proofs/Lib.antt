@@ -1,0 +1,11 @@
+pub mod Counts
+pub mod Starting
+pub mod BusyCycles
+pub mod Running
+pub mod Counting
+pub mod Sums
+pub mod Calling
+pub mod Telling
+pub mod Pieces
+pub mod Worked
+pub mod Answers

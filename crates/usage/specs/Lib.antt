@@ -1,0 +1,6 @@
+pub mod Using
+pub mod Charge
+pub mod Calls
+pub mod Told
+pub mod Pieces
+pub mod Cases
