@@ -5,7 +5,8 @@
 # calls and recordings of the outside tests' makers, and what it writes is held to what the model
 # answers. A bug in the boot report is looked for by spurphases, one in the accounts by spuraccounts
 # and spurcalls, one in what only spurjudge uses besides by spurjudge, any other by spurcalls.
-# LISTS is the number of long lists of 3,000 calls for each of five subjects (5), SEED is added to
+# LISTS is the number of long lists of 3,000 calls for each of five subjects (5), DAMAGED that of damaged
+# recordings for each rule in two more (25; fewer where programs run in an emulator), SEED is added to
 # the seeds (0), SHOW=1 shows what `rt try` said, ONLY is a piece of the description of those to be
 # planted.
 here=$(cd "$(dirname "$0")" && pwd)
@@ -47,8 +48,8 @@ edit reading/src/lib.rt 'libc::read(STDIN_FILENO, buffer)' \
 # million steps, first two with 25 damaged recordings for each rule; recordings that conform, with
 # a torn end, and with a breach.
 "$out/makecalls" mixed 400 $((seed + 1)) >"$inputs/spurcalls.1" || exit 2
-"$out/makecalls" damaged 25 $((seed + 2)) >"$inputs/spurcalls.2" || exit 2
-"$out/makecalls" damaged 25 $((seed + 3)) >"$inputs/spurcalls.3" || exit 2
+"$out/makecalls" damaged "${DAMAGED:-25}" $((seed + 2)) >"$inputs/spurcalls.2" || exit 2
+"$out/makecalls" damaged "${DAMAGED:-25}" $((seed + 3)) >"$inputs/spurcalls.3" || exit 2
 list=4
 while [ "$list" -le $((${LISTS:-5} + 3)) ]; do
     "$out/makecalls" mixed 3000 $((seed + list)) >"$inputs/spurcalls.$list" || exit 2
