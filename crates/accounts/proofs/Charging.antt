@@ -25,7 +25,7 @@ use Rattle.usage.proofs.Starting.{owner-most}
 use Rattle.usage.proofs.Running.{added-at, added-length}
 use Rattle.accounts.specs.declared.charge.Shown.{Shown}
 use Rattle.accounts.specs.declared.charge.Watch.{Watch}
-use Rattle.accounts.specs.Watch.{shownOf, counts, watchOf, idledOf, chargedOf, slotBy, busyBy, nextWatch, nextEntries, chargedBy, Within, Roomy, Chargeable}
+use Rattle.accounts.specs.Watch.{shownOf, watchOf, idledOf, chargedOf, slotBy, busyBy, nextWatch, nextEntries, chargedBy, Within, Roomy, Chargeable}
 use Rattle.accounts.proofs.Watched.{stamp-lt, account-same, first-watches, first-apart}
 
 -- the record at place i
@@ -57,7 +57,7 @@ busy-less w s =
 pub next-slot : (w : Watch) (s : Shown) → w .slot ≤ 15 → s .arb ≤ 15 → nextWatch w s .slot ≤ 15
 unfolding nextWatch
 next-slot w s a b =
-    choice (λ (x : Watch). x .slot ≤ 15) (counts s) (λ _. choice (λ (k : ℕ). k ≤ 15) (s .reset) (λ _. omega arith) (λ _. slot-most w s a b)) (λ _. a)
+    choice (λ (x : Watch). x .slot ≤ 15) (s .counts) (λ _. choice (λ (x : Watch). x .slot ≤ 15) (s .reset) (λ _. omega arith) (λ _. slot-most w s a b)) (λ _. a)
 
 -- what is added to one entry stays within a little more
 within-added : (es : List Entry) (slot starts busy m n : ℕ) → slot < length es → starts ≤ 1 → busy ≤ 2 ^ 32 → Within m n es → Within (m + 1) (n + 2 ^ 32) (addedAt es slot starts busy)
@@ -74,13 +74,13 @@ within-more es m n h k = let w = h k in (omega arith, omega arith)
 pub next-within : (w : Watch) (es : List Entry) (s : Shown) (m n : ℕ) → length es ≡ 16 → w .slot ≤ 15 → s .arb ≤ 15 → Within m n es → Within (m + 1) (n + 2 ^ 32) (nextEntries w es s)
 unfolding nextEntries
 next-within w es s m n size a b h =
-    choice (Within (m + 1) (n + 2 ^ 32)) (counts s)
+    choice (Within (m + 1) (n + 2 ^ 32)) (s .counts)
     (λ _. let slot = slot-most w s a b in let l = busy-less w s in within-added es (slotBy w s) (one (s .start && not (s .reset))) (busyBy w s) m n (omega arith) (one-most (s .start && not (s .reset))) (omega arith) h)
     (λ _. within-more es m n h)
 
 pub next-length : (w : Watch) (es : List Entry) (s : Shown) → length (nextEntries w es s) ≡ length es
 unfolding nextEntries
-next-length w es s = choice (λ (x : List Entry). length x ≡ length es) (counts s) (λ _. added-length es (slotBy w s) (one (s .start && not (s .reset))) (busyBy w s)) (λ _. refl)
+next-length w es s = choice (λ (x : List Entry). length x ≡ length es) (s .counts) (λ _. added-length es (slotBy w s) (one (s .start && not (s .reset))) (busyBy w s)) (λ _. refl)
 
 -- ---- the loop
 -- i of n records are charged
@@ -133,7 +133,7 @@ module _ (bytes : List ℕ) (n : ℕ) (begun : List Entry) (first : Watch) (es :
       }
 
   -- by the two ways of the code
-  pub charged-one : i < n → (slot busy : ℕ) (entry : Entry) (x : List Entry) (v : Watch) → counts s ≡ true → slot ≡ slotBy w s → busy ≡ busyBy w s → entry ≡ added (getD es slot zeroEntry) (one (s .start && not (s .reset))) busy
+  pub charged-one : i < n → (slot busy : ℕ) (entry : Entry) (x : List Entry) (v : Watch) → s .counts ≡ true → slot ≡ slotBy w s → busy ≡ busyBy w s → entry ≡ added (getD es slot zeroEntry) (one (s .start && not (s .reset))) busy
       → x ≡ set es slot entry → v ≡ chargedOf s slot → Charging bytes n begun first x v (i + 1)
   unfolding nextEntries nextWatch addedAt
   charged-one lt slot busy entry x v c se be ee xe ve =
@@ -147,7 +147,7 @@ module _ (bytes : List ℕ) (n : ℕ) (begun : List Entry) (first : Watch) (es :
       subst (λ (y : List Entry). Charging bytes n begun first y v (i + 1)) (sym same-entries)
       (subst (λ (y : Watch). Charging bytes n begun first (nextEntries w es s) y (i + 1)) (sym same-watch) (charging-again lt))
 
-  pub idled-one : i < n → (x : List Entry) (v : Watch) → counts s ≡ false → x ≡ es → v ≡ idledOf w s → Charging bytes n begun first x v (i + 1)
+  pub idled-one : i < n → (x : List Entry) (v : Watch) → s .counts ≡ false → x ≡ es → v ≡ idledOf w s → Charging bytes n begun first x v (i + 1)
   unfolding nextEntries nextWatch
   idled-one lt x v c xe ve =
       subst (λ (y : List Entry). Charging bytes n begun first y v (i + 1)) (sym (xe ∙ sym (cond-false _ _ c)))

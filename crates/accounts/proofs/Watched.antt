@@ -1,17 +1,19 @@
 -- What charging keeps of the records before is what the judge's state says, so its working form charges as `charged` does. Assumes nothing.
-use Prim.Native.Nat.{ℕ, zero, suc, _+_, _-_, _/_, _%_, _^_, _≤_, _<_}
-use mathlib.Core.Bool.{Bool, true, false, not, cond, _&&_, _||_, false≢true, and-true, and-false}
+use Prim.Native.Nat.{ℕ, zero, suc, _+_, _*_, _/_, _%_, _^_, _≤_, _<_}
+use mathlib.Core.Bool.{Bool, true, false, not, cond, _&&_, _||_, false≢true}
 use mathlib.Core.List.{List}
 use mathlib.Core.Path.{_≡_, refl, sym, ap, subst, _∙_}
 use native.Mathlib.Omega.{arith}
 use lib.Dec.{eqb}
-use lib.ListN.{take, drop, getD, set}
+use lib.ListN.{length, take, drop, getD, set}
 use lib.Seq.{set-getD}
+use borrow.Author.Tests.{eqb-true, eqb-false, eq-eqb, ne-eqb}
 use Rattle.basics.specs.Lines.{one}
 use Rattle.basics.proofs.Bools.{by-test, cond-true, cond-false, choice}
 use Rattle.record.specs.declared.Record.{Record}
 use Rattle.record.specs.Digits.{number}
 use Rattle.record.specs.Layout.{bytes as bytesWide, recordIn, fieldsIn}
+use Rattle.record.proofs.Bytes.{AllBytes, record-is}
 use Rattle.entries.specs.declared.Entry.{Entry}
 use Rattle.entries.specs.Entries.{zeroEntry}
 use Rattle.rules.specs.declared.Judge.{Judge}
@@ -29,7 +31,7 @@ use Rattle.usage.proofs.Running.{added-none}
 use Rattle.usage.specs.Charge.{slotOf, startsIn, chargedTo, busyTo, busyIn, addedAt, charged, nextJudge, Passes, accountOf}
 use Rattle.accounts.specs.declared.charge.Shown.{Shown}
 use Rattle.accounts.specs.declared.charge.Watch.{Watch}
-use Rattle.accounts.specs.Watch.{shownOf, counts, lastOf, watchOf, idledOf, chargedOf, slotBy, busyBy, nextWatch, nextEntries, chargedBy}
+use Rattle.accounts.specs.Watch.{shownOf, lastOf, watchOf, idledOf, clearedOf, slotBy, busyBy, nextWatch, nextEntries, chargedBy}
 
 -- ---- stamps
 -- "The stamp's difference .., modulo 2^32": two differences in a row are the difference over both, if it is below 2^32
@@ -49,6 +51,46 @@ low-bits n = omega arith
 pub stamp-lt : (bytes : List ℕ) → recordIn bytes .stamp < 2 ^ 32
 unfolding recordIn fieldsIn
 stamp-lt bytes = low-bits (number bytesWide bytes / 2 ^ 96)
+
+-- ---- what of a record an account hangs on
+bit-zero : (n : ℕ) → (n % 2 ≡ 1 → ⊥) → n % 2 ≡ 0
+bit-zero n ne = omega arith
+
+two-bits : (b : ℕ) → b / 2 % 2 ≡ 0 → b % 2 ≡ 0 → b % 4 ≡ 0
+two-bits b x y = omega arith
+
+top-bit : (b : ℕ) → b < 256 → b / 128 % 2 ≡ 0 → b / 128 ≡ 0
+top-bit b lt z = omega arith
+
+-- START, ACK and RESET, by one test of their byte
+counted-byte : (b : ℕ) → b < 256 → not (eqb (b / 128 * 128 + b % 4) 0) ≡ (eqb (b / 2 % 2) 1 || eqb (b % 2) 1 || eqb (b / 128 % 2) 1)
+counted-byte b lt =
+    by-test (eqb (b / 2 % 2) 1)
+    (λ e. let z = eqb-true (b / 2 % 2) 1 e in some (omega arith) ∙ sym (ap (λ (x : Bool). x || eqb (b % 2) 1 || eqb (b / 128 % 2) 1) e))
+    (λ e. by-test (eqb (b % 2) 1)
+    (λ f. let z = eqb-true (b % 2) 1 f in some (omega arith) ∙ sym (ap (λ (x : Bool). x || eqb (b % 2) 1 || eqb (b / 128 % 2) 1) e ∙ ap (λ (x : Bool). x || eqb (b / 128 % 2) 1) f))
+    (λ f. by-test (eqb (b / 128 % 2) 1)
+    (λ g. let z = eqb-true (b / 128 % 2) 1 g in some (omega arith) ∙ sym (ap (λ (x : Bool). x || eqb (b % 2) 1 || eqb (b / 128 % 2) 1) e ∙ ap (λ (x : Bool). x || eqb (b / 128 % 2) 1) f ∙ g))
+    (λ g. none (eqb-false (b / 2 % 2) 1 e) (eqb-false (b % 2) 1 f) (eqb-false (b / 128 % 2) 1 g) ∙ sym (ap (λ (x : Bool). x || eqb (b % 2) 1 || eqb (b / 128 % 2) 1) e ∙ ap (λ (x : Bool). x || eqb (b / 128 % 2) 1) f ∙ g))))
+  where
+    some : (b / 128 * 128 + b % 4 ≡ 0 → ⊥) → not (eqb (b / 128 * 128 + b % 4) 0) ≡ true
+    some ne = ap not (ne-eqb (b / 128 * 128 + b % 4) 0 ne)
+
+    none : (b / 2 % 2 ≡ 1 → ⊥) → (b % 2 ≡ 1 → ⊥) → (b / 128 % 2 ≡ 1 → ⊥) → not (eqb (b / 128 * 128 + b % 4) 0) ≡ false
+    none x y z =
+        let two : b % 4 ≡ 0 = two-bits b (bit-zero (b / 2) x) (bit-zero b y) in
+        let high : b / 128 ≡ 0 = top-bit b lt (bit-zero (b / 128) z) in
+        ap not (eq-eqb (b / 128 * 128 + b % 4) 0 (omega (arith, two, high)))
+
+-- from the bytes that the code reads
+pub shown-bytes : (xs : List ℕ) → 16 ≤ length xs → AllBytes xs → (stamp : ℕ) → stamp ≡ getD xs 0 0 * 16777216 + getD xs 1 0 * 65536 + getD xs 2 0 * 256 + getD xs 3 0
+    → record { stamp = stamp; reset = eqb (getD xs 4 0 / 128 % 2) 1; rqst = eqb (getD xs 4 0 / 64 % 2) 1; arb = getD xs 4 0 / 4 % 16; start = eqb (getD xs 4 0 / 2 % 2) 1; ack = eqb (getD xs 4 0 % 2) 1; counts = not (eqb (getD xs 4 0 / 128 * 128 + getD xs 4 0 % 4) 0) }
+    ≡ shownOf (recordIn (take 16 xs))
+shown-bytes xs enough byte stamp e =
+    let b : ℕ = getD xs 4 0 in
+    ap (λ (n : ℕ). record { stamp = n; reset = eqb (b / 128 % 2) 1; rqst = eqb (b / 64 % 2) 1; arb = b / 4 % 16; start = eqb (b / 2 % 2) 1; ack = eqb (b % 2) 1; counts = not (eqb (b / 128 * 128 + b % 4) 0) }) e
+    ∙ ap (λ (x : Bool). record { stamp = getD xs 0 0 * 16777216 + getD xs 1 0 * 65536 + getD xs 2 0 * 256 + getD xs 3 0; reset = eqb (b / 128 % 2) 1; rqst = eqb (b / 64 % 2) 1; arb = b / 4 % 16; start = eqb (b / 2 % 2) 1; ack = eqb (b % 2) 1; counts = x }) (counted-byte b (byte 4))
+    ∙ sym (ap shownOf (record-is xs enough byte))
 
 -- ---- what is kept of the judge's state
 pub record Watches (w : Watch) (j : Judge) : Type 0 where
@@ -155,7 +197,7 @@ module _ (w : Watch) (j : Judge) (r : Taken) (h : Watches w j) (apart : Apart w 
       ∙ ap (λ (b : Bool). cond (startsIn (r .lines) && (eqb d 1 && b)) (s .arb) (w .slot)) (h .rqst)
       ∙ ap (cond (startsIn (r .lines) && (eqb d 1 && j .wave .rqst)) (s .arb)) (h .slot)
 
-  busy-same : counts s ≡ true → busyBy w s ≡ busyIn (j .transfer) (r .lines) d
+  busy-same : s .counts ≡ true → busyBy w s ≡ busyIn (j .transfer) (r .lines) d
   unfolding busyBy busyIn
   busy-same c =
       by-test (startsIn (r .lines)) (λ e. cond-true _ _ e ∙ sym (cond-true _ _ e))
@@ -171,7 +213,7 @@ module _ (w : Watch) (j : Judge) (r : Taken) (h : Watches w j) (apart : Apart w 
   pub entries-same : (es : List Entry) → nextEntries w es s ≡ charged es j (r .lines) d
   unfolding nextEntries charged
   entries-same es =
-      choice (λ (x : List Entry). x ≡ charged es j (r .lines) d) (counts s)
+      choice (λ (x : List Entry). x ≡ charged es j (r .lines) d) (s .counts)
       (λ c. ap (λ (k : ℕ). addedAt es k (one (startsIn (r .lines))) (busyBy w s)) slot-same ∙ ap (addedAt es (chargedTo (j .wave) (r .lines) d) (one (startsIn (r .lines)))) (busy-same c))
       (λ c. sym (quiet (none-of (s .start) (s .ack) (s .reset) c)))
     where
@@ -187,33 +229,30 @@ module _ (w : Watch) (j : Judge) (r : Taken) (h : Watches w j) (apart : Apart w 
   pub next-watches : Watches (nextWatch w s) (judgeOf j (r .lines) d)
   unfolding nextWatch judgeOf
   next-watches =
-      choice (λ (x : Watch). Watches x (cond (s .reset) (resetOf j (s .stamp)) (movedOf j (r .lines) d))) (counts s)
-      (λ c. choice (Watches (chargedOf s (slotBy w s))) (s .reset) reset (λ nr. moved nr (without-reset (s .start) (s .ack) (s .reset) c nr)))
+      choice (λ (x : Watch). Watches x (cond (s .reset) (resetOf j (s .stamp)) (movedOf j (r .lines) d))) (s .counts)
+      (λ c. by-test (s .reset)
+      (λ e. subst (λ (x : Watch). Watches x (cond (s .reset) (resetOf j (s .stamp)) (movedOf j (r .lines) d))) (sym (cond-true _ _ e)) (subst (Watches (clearedOf s)) (sym (cond-true _ _ e)) reset))
+      (λ nr. subst (λ (x : Watch). Watches x (cond (s .reset) (resetOf j (s .stamp)) (movedOf j (r .lines) d))) (sym (cond-false _ _ nr)) (subst (Watches started) (sym (cond-false _ _ nr)) (moved nr (without-reset (s .start) (s .ack) (s .reset) c nr)))))
       (λ c. idle (none-of (s .start) (s .ack) (s .reset) c))
     where
-      reset : s .reset ≡ true → Watches (chargedOf s (slotBy w s)) (resetOf j (s .stamp))
-      reset e =
-          record {
-            stamp = stamped;
-            began = difference-less 1 (s .stamp);
-            rqst = ap (λ (b : Bool). s .rqst && not b) e ∙ and-false (s .rqst);
-            slot = cond-true _ _ e;
-            opened = ap (λ (b : Bool). s .start && not (s .ack) && not b) e ∙ and-false (s .start && not (s .ack));
-            busy = λ o. absurd (false≢true o);
-          }
+      reset : Watches (clearedOf s) (resetOf j (s .stamp))
+      reset = record { stamp = stamped; began = stamped; rqst = refl; slot = refl; opened = refl; busy = λ o. absurd (false≢true o) }
+
+      started : Watch
+      started = record { stamp = s .stamp; rqst = s .rqst; slot = slotBy w s; opened = s .start && not (s .ack); began = difference 1 (s .stamp) }
 
       owner : s .reset ≡ false → slotBy w s ≡ slotOf (movedOf j (r .lines) d .wave .owner)
       owner nr = slot-same ∙ owner-charged (j .wave) (r .lines) d nr
 
-      moved : s .reset ≡ false → (s .start || s .ack) ≡ true → Watches (chargedOf s (slotBy w s)) (movedOf j (r .lines) d)
+      moved : s .reset ≡ false → (s .start || s .ack) ≡ true → Watches started (movedOf j (r .lines) d)
       moved nr some =
           let words : ℕ = wordsOf (r .lines .tm0) (r .lines .ad) in
           record {
             stamp = stamped;
             began = difference-less 1 (s .stamp);
-            rqst = ap (λ (b : Bool). s .rqst && not b) nr ∙ and-true (s .rqst);
-            slot = cond-false _ _ nr ∙ owner nr;
-            opened = ap (λ (b : Bool). s .start && not (s .ack) && not b) nr ∙ and-true (s .start && not (s .ack)) ∙ moved-open (j .transfer) (s .start) (s .ack) (r .lines .tm0) words d some;
+            rqst = refl;
+            slot = owner nr;
+            opened = moved-open (j .transfer) (s .start) (s .ack) (r .lines .tm0) words d some;
             busy = λ o. moved-busy (j .transfer) (s .start) (s .ack) (r .lines .tm0) words d some o ∙ back-again 1 (s .stamp) (omega arith) stamped;
           }
 
@@ -234,8 +273,8 @@ module _ (w : Watch) (j : Judge) (r : Taken) (h : Watches w j) (apart : Apart w 
 next-apart : (w : Watch) (j : Judge) (r : Record) (d stamp : ℕ) → Apart (nextWatch w (shownOf r)) (judgeOf j r d) stamp
 unfolding nextWatch judgeOf diffOf
 next-apart w j r d stamp =
-    choice (λ (x : Watch). cond (cond (r .reset) (resetOf j (r .stamp)) (movedOf j r d) .seen) (difference (cond (r .reset) (resetOf j (r .stamp)) (movedOf j r d) .stamp) stamp) 0 ≡ difference (x .stamp) stamp) (counts (shownOf r))
-    (λ _. here) (λ _. here)
+    let P : Watch → Type 0 = λ x. cond (cond (r .reset) (resetOf j (r .stamp)) (movedOf j r d) .seen) (difference (cond (r .reset) (resetOf j (r .stamp)) (movedOf j r d) .stamp) stamp) 0 ≡ difference (x .stamp) stamp in
+    choice P (shownOf r .counts) (λ _. choice P (r .reset) (λ _. here) (λ _. here)) (λ _. here)
   where
     here : cond (cond (r .reset) (resetOf j (r .stamp)) (movedOf j r d) .seen) (difference (cond (r .reset) (resetOf j (r .stamp)) (movedOf j r d) .stamp) stamp) 0 ≡ difference (r .stamp) stamp
     here = choice (λ (k : Judge). cond (k .seen) (difference (k .stamp) stamp) 0 ≡ difference (r .stamp) stamp) (r .reset) (λ _. refl) (λ _. refl)

@@ -1,7 +1,7 @@
 -- What charging keeps of the records before, and what it makes of the next one: a working form of `charged` (usage/specs/Charge) that takes few steps a
 -- record. Nothing here is promised to a caller.
 use Prim.Native.Nat.{ℕ, _+_, _*_, _^_, _≤_}
-use mathlib.Core.Bool.{Bool, not, cond, _&&_, _||_}
+use mathlib.Core.Bool.{false, not, cond, _&&_, _||_}
 use mathlib.Core.List.{List, [], _∷_}
 use lib.Dec.{eqb}
 use lib.ListN.{length, getD}
@@ -20,13 +20,18 @@ use Rattle.accounts.specs.declared.charge.Watch.{Watch}
 use Rattle.accounts.specs.declared.charge.Charged.{Charged}
 
 -- ---- a record
--- what of a record an account hangs on
+-- what of a record an account hangs on; only one that counts changes an entry
 abbrev pub shownOf : Record → Shown
-shownOf r = record { stamp = r .stamp; reset = r .reset; rqst = r .rqst; arb = r .arb; start = r .start; ack = r .ack }
-
--- only such a record changes an entry
-abbrev pub counts : Shown → Bool
-counts s = s .start || s .ack || s .reset
+shownOf r =
+    record {
+      stamp = r .stamp;
+      reset = r .reset;
+      rqst = r .rqst;
+      arb = r .arb;
+      start = r .start;
+      ack = r .ack;
+      counts = r .start || r .ack || r .reset;
+    }
 
 -- ---- the state
 -- the stamp that the next record's difference is taken to: the first record of all has none, and its difference is 0
@@ -49,16 +54,15 @@ watchOf j first =
 abbrev pub idledOf : Watch → Shown → Watch
 idledOf w s = record { stamp = s .stamp; rqst = s .rqst; slot = w .slot; opened = w .opened; began = w .began }
 
--- after one that was charged to this slot
+-- after RESET
+abbrev pub clearedOf : Shown → Watch
+clearedOf s = record { stamp = s .stamp; rqst = false; slot = 0; opened = false; began = s .stamp }
+
+-- after a record that was charged to this slot
 abbrev pub chargedOf : Shown → ℕ → Watch
 chargedOf s slot =
-    record {
-      stamp = s .stamp;
-      rqst = s .rqst && not (s .reset);
-      slot = cond (s .reset) 0 slot;
-      opened = s .start && not (s .ack) && not (s .reset);
-      began = difference 1 (s .stamp);
-    }
+    cond (s .reset) (clearedOf s)
+    (record { stamp = s .stamp; rqst = s .rqst; slot = slot; opened = s .start && not (s .ack); began = difference 1 (s .stamp) })
 
 -- ---- what a record adds
 -- the slot: a wave's START is its ARB's, everything else the owner's
@@ -71,10 +75,10 @@ busyBy w s = cond (s .start && not (s .reset)) (one (s .ack)) (cond (w .opened) 
 
 -- what is kept after it, and the account
 unfoldable pub nextWatch : Watch → Shown → Watch
-nextWatch w s = cond (counts s) (chargedOf s (slotBy w s)) (idledOf w s)
+nextWatch w s = cond (s .counts) (chargedOf s (slotBy w s)) (idledOf w s)
 
 unfoldable pub nextEntries : Watch → List Entry → Shown → List Entry
-nextEntries w es s = cond (counts s) (addedAt es (slotBy w s) (one (s .start && not (s .reset))) (busyBy w s)) es
+nextEntries w es s = cond (s .counts) (addedAt es (slotBy w s) (one (s .start && not (s .reset))) (busyBy w s)) es
 
 -- after one record after another
 abbrev pub chargedBy : Watch → List Entry → List Taken → Charged

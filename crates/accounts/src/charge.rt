@@ -10,7 +10,7 @@ ghost use Rattle.rules.specs.Rules.{difference};
 ghost use Rattle.rules.specs.Run.{recordsIn};
 ghost use Rattle.rules.specs.State.{openBusy};
 ghost use Rattle.usage.specs.Charge.{slotOf, added as addedTo, accountOf};
-ghost use Rattle.accounts.specs.Watch.{shownOf, counts, lastOf, watchOf, idledOf, chargedOf, slotBy, busyBy, chargedBy, Roomy, Chargeable};
+ghost use Rattle.accounts.specs.Watch.{shownOf, lastOf, watchOf, idledOf, chargedOf, slotBy, busyBy, chargedBy, Roomy, Chargeable};
 use entries::Entry;
 use rules::Judge;
 use rules::Owner;
@@ -18,7 +18,7 @@ use rules::Transfer;
 
 // ---- a record
 
-// What of a record an account hangs on.
+// What of a record an account hangs on. `counts` says that it has START, ACK or RESET: no other record changes an entry.
 struct Shown {
     stamp: u32,
     reset: bool,
@@ -26,6 +26,7 @@ struct Shown {
     arb: u8,
     start: bool,
     ack: bool,
+    counts: bool,
 }
 
 // Four bytes as one number, which a compiler reads in one load.
@@ -49,14 +50,8 @@ fn shown_in(part: &[u8]) -> Shown
         arb: four / 4 % 16,
         start: four / 2 % 2 == 1,
         ack: four % 2 == 1,
+        counts: four / 128 * 128 + four % 4 != 0,
     }
-}
-
-// Whether the record may change an entry.
-fn is_counted(shown: Shown) -> bool
-    ensures { λ r. ⌜ r ≡ counts shown ⌝ }
-{
-    shown.start | shown.ack | shown.reset
 }
 
 // ---- the state
@@ -136,15 +131,24 @@ fn after_idle(watch: Watch, shown: Shown) -> Watch
     }
 }
 
-// After a record that was charged to this slot: a START makes it the owner's.
+// After a record that was charged to this slot: a START makes it the owner's, and RESET leaves nothing.
 fn after_charge(shown: Shown, slot: u8) -> Watch
     ensures { λ r. ⌜ r ≡ chargedOf shown slot ⌝ }
 {
+    if shown.reset {
+        return Watch {
+            stamp: shown.stamp,
+            rqst: false,
+            slot: 0,
+            opened: false,
+            began: shown.stamp,
+        };
+    }
     Watch {
         stamp: shown.stamp,
-        rqst: shown.rqst & !shown.reset,
-        slot: basics::pick(shown.reset, 0, slot),
-        opened: shown.start & !shown.ack & !shown.reset,
+        rqst: shown.rqst,
+        slot: slot,
+        opened: shown.start & !shown.ack,
         began: cycles(1, shown.stamp),
     }
 }
@@ -198,7 +202,7 @@ pub(crate) fn charge_on(bytes: &[u8], n: usize, watch: Watch, entries: [Entry; 1
         let at = i * 16;
         let end = at + 16;
         let shown = shown_in(&bytes[at..end]);
-        if is_counted(shown) {
+        if shown.counts {
             let slot = slot_of(state, shown);
             let busy = busy_of(state, shown);
             let place = slot as usize;

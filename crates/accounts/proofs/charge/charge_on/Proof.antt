@@ -36,9 +36,6 @@ part-shown-in-end c = let fits = c .before .loop .inv .fits in omega arith
 shown-in-requires : tie.Need-shown-in-requires Inv-loop μ-loop
 shown-in-requires c κs = let fits = c .before .before .loop .inv .fits in simp (length-take, length-drop) (omega arith)
 
-is-counted-requires : tie.Need-is-counted-requires Inv-loop μ-loop
-is-counted-requires c κs = search needs
-
 slot-of-requires : tie.Need-slot-of-requires Inv-loop μ-loop
 slot-of-requires c κs = search needs
 
@@ -51,9 +48,9 @@ cast-place c = search needs
 -- the slot is one of sixteen
 array-copy-out-entry : tie.Need-array-copy-out-entry Inv-loop μ-loop
 array-copy-out-entry c =
-    let l = c .before .before .before .before .before .before .before .loop in
-    let s = c .before .before .before .before .shown-in in
-    let bytes = c .before .before .before .before .before .before .before .before .before .args .bytes .now in
+    let l = c .before .before .before .before .before .before .loop in
+    let s = c .before .before .before .shown-in in
+    let bytes = c .before .before .before .before .before .before .before .before .args .bytes .now in
     subst (λ (k : ℕ). k < 16) (sym (c .before .slot-of .ensures)) (place-in bytes _ _ _ _ _ (l .i) (l .inv) (s .result) (s .ensures ∙ shown-at bytes (l .i)))
 
 mul-entry : tie.Need-mul-entry Inv-loop μ-loop
@@ -61,9 +58,9 @@ mul-entry c = let lt = array-copy-out-entry c in omega arith
 
 added-requires : tie.Need-added-requires Inv-loop μ-loop
 added-requires c κs =
-    let l = c .before .before .before .before .before .before .before .before .before .before .loop in
+    let l = c .before .before .before .before .before .before .before .before .before .loop in
     let few = l .inv .few in
-    let lt = c .before .before .before .before .before .before .before .before .before .loop-test .taken in
+    let lt = c .before .before .before .before .before .before .before .before .loop-test .taken in
     let w = l .inv .room (c .before .before .before .before .slot-of .result) in
     (omega arith, omega arith)
 
@@ -80,7 +77,7 @@ after-idle-requires : tie.Need-after-idle-requires Inv-loop μ-loop
 after-idle-requires c κs = search needs
 
 add-i : tie.Need-add-i Inv-loop μ-loop
-add-i c = let few = c .before .before .before .before .before .loop .inv .few in omega arith
+add-i c = let few = c .before .before .before .before .loop .inv .few in omega arith
 
 loop-less : tie.Need-loop-less Inv-loop μ-loop
 loop-less c = omega arith
@@ -88,15 +85,14 @@ loop-less c = omega arith
 -- a record that was charged, or one that changes no entry
 loop-again : tie.Need-loop-again Inv-loop μ-loop
 loop-again c =
-    let l = c .before .before .before .before .before .loop in
-    let s = c .before .before .shown-in in
-    let bytes = c .before .before .before .before .before .before .before .args .bytes .now in
-    let lt = c .before .before .before .before .loop-test .taken in
+    let l = c .before .before .before .before .loop in
+    let s = c .before .shown-in in
+    let bytes = c .before .before .before .before .before .before .args .bytes .now in
+    let lt = c .before .before .before .loop-test .taken in
     let shown = s .ensures ∙ shown-at bytes (l .i) in
-    let test = c .before .is-counted .ensures in
     ⊎-elim
-    (λ w. charged-one bytes _ _ _ (l .account) (l .state) (l .i) (l .inv) (s .result) shown lt (w .1 .result) (w .2 .result) (w .6 .result) (c .if1 .account) (c .if1 .state) (sym test ∙ w .0 .taken) (w .1 .ensures) (w .2 .ensures) (w .6 .ensures) (w .8) (w .9 ∙ w .7 .ensures))
-    (λ w. idled-one bytes _ _ _ (l .account) (l .state) (l .i) (l .inv) (s .result) shown lt (c .if1 .account) (c .if1 .state) (sym test ∙ w .0 .left) (w .2) (w .3 ∙ w .1 .ensures))
+    (λ w. charged-one bytes _ _ _ (l .account) (l .state) (l .i) (l .inv) (s .result) shown lt (w .1 .result) (w .2 .result) (w .6 .result) (c .if1 .account) (c .if1 .state) (w .0 .taken) (w .1 .ensures) (w .2 .ensures) (w .6 .ensures) (w .8) (w .9 ∙ w .7 .ensures))
+    (λ w. idled-one bytes _ _ _ (l .account) (l .state) (l .i) (l .inv) (s .result) shown lt (c .if1 .account) (c .if1 .state) (w .0 .left) (w .2) (w .3 ∙ w .1 .ensures))
     (c .if1 .came)
 
 returns : tie.Need-returns Inv-loop μ-loop
@@ -115,7 +111,6 @@ charge-on-spec =
     part-shown-in-start
     part-shown-in-end
     shown-in-requires
-    is-counted-requires
     slot-of-requires
     busy-of-requires
     cast-place
