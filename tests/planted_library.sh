@@ -5,7 +5,7 @@
 # calls and recordings of the outside tests' makers, and what it writes is held to what the model
 # answers. A bug in the boot report is looked for by spurphases, one in the accounts by spuraccounts
 # and spurcalls, one in what only spurjudge uses besides by spurjudge, any other by spurcalls.
-# LISTS is the number of long lists of 3,000 calls for each of five subjects (5), DAMAGED that of damaged
+# LISTS is the number of long lists of 1,500 calls for each of their subjects (5; `rt try` ends a program at 1 MiB), DAMAGED that of damaged
 # recordings for each rule in two more (25; fewer where programs run in an emulator), SEED is added to
 # the seeds (0), SHOW=1 shows what `rt try` said, ONLY is a piece of the description of those to be
 # planted.
@@ -52,7 +52,7 @@ edit reading/src/lib.rt 'libc::read(STDIN_FILENO, buffer)' \
 "$out/makecalls" damaged "${DAMAGED:-25}" $((seed + 3)) >"$inputs/spurcalls.3" || exit 2
 list=4
 while [ "$list" -le $((${LISTS:-5} + 3)) ]; do
-    "$out/makecalls" mixed 3000 $((seed + list)) >"$inputs/spurcalls.$list" || exit 2
+    "$out/makecalls" mixed 1500 $((seed + list)) >"$inputs/spurcalls.$list" || exit 2
     list=$((list + 1))
 done
 "$out/makerec" sound 4000 $((seed + 1)) >"$inputs/spurjudge.1" || exit 2
