@@ -8,7 +8,6 @@ use lib.Dec.{eqb, leb}
 use lib.ListN.{length, take, drop, getD}
 use lib.Seq.{take-all, drop-cons, drop-length}
 use borrow.Author.Tests.{leb-true, leb-false, le-leb, lt-leb, eqb-true, eqb-false, eq-eqb, ne-eqb}
-use Rattle.basics.specs.Order.{unless}
 use Rattle.basics.proofs.Bools.{by-test, cond-true, cond-false, and-both, both-and}
 use Rattle.entries.specs.declared.Entry.{Entry}
 use Rattle.entries.specs.Entries.{zeroEntry, firstOf, sixteenOf, spreadOf}
@@ -24,14 +23,14 @@ use Rattle.rules.specs.Verdict.{mostRecords, refusedBy, outcomeIn, outcomeOf}
 use Rattle.rules.proofs.Laws.{unless-zero, judge-sound, tally-sound, refusal-none, outcome-judged}
 use Rattle.usage.specs.declared.Accounted.{Accounted}
 use Rattle.usage.specs.Charge.{Passes, accountOf}
-use Rattle.usage.specs.Calls.{entryBounds, entriesBounds, accountRefusal, accountedOf, judgedIn, ownEntry, shareOf, shareRefusal}
+use Rattle.usage.specs.Calls.{entryBounds, entriesBounds, refusalFor, accountRefusal, accountedOf, judgesAnswer, ownEntry, shareRefusal, answerBy, shareOf}
 use Rattle.usage.specs.Told.{AfterUse, ToldUse}
 use Rattle.usage.proofs.Running.{Passed, passed, account-length}
 use Rattle.usage.proofs.Calling.{accounted-judged, accounted-refused, accepted-bounds}
 use Rattle.usage.proofs.Telling.{told-use-of}
 use Rattle.accounts.specs.Watch.{Within, Chargeable}
 use Rattle.accounts.specs.declared.Call.{Call}
-use Rattle.accounts.specs.ByValue.{refusalFor, accountedFor, callOf, answered, shareFor}
+use Rattle.accounts.specs.ByValue.{accountedFor, callOf, shareFor}
 
 -- ---- bounds
 -- a difference within, or the sum
@@ -171,8 +170,7 @@ sixteen-bounds t es = first-bounds t 16 es
 
 refusal-lent : (size : ℕ) (j : Judge) (t : Tally) (es : List Entry) → refusalFor size j t (sixteenOf es) (length es) ≡ accountRefusal size j t es
 unfolding refusalFor accountRefusal
-refusal-lent size j t es =
-    ap (λ (b : Bool). unless (judgeBounds j && tallyBounds t && b) 5 (unless (leb (t .records + size / 16) mostRecords) 8 (unless (eqb (size % 16) 0 && eqb (length es) 16) 1 0))) (sixteen-bounds t es)
+refusal-lent size j t es = simp (sixteen-bounds t es)
 
 -- the call by value, with its entries put back into the account
 abbrev pub putBack : List Entry → Accounted → Accounted
@@ -203,7 +201,7 @@ account-lent bytes j t es =
 
 -- what a caller learns who lends the tally and the account: the answer, what these have become, and what it says of the whole recording
 pub lent-told : (bytes : List ℕ) (j : Judge) (t : Tally) (es zs : List Entry) (c : Call) → c ≡ callOf (accountedFor bytes j t (sixteenOf es) (length es)) → zs ≡ spreadOf es (c .entries)
-    → (c .judged ≡ judgedIn (accountedOf bytes j t es)) × ((c .tally ≡ accountedOf bytes j t es .tally) × ((zs ≡ accountedOf bytes j t es .entries)
+    → (c .judged ≡ judgesAnswer (accountedOf bytes j t es)) × ((c .tally ≡ accountedOf bytes j t es .tally) × ((zs ≡ accountedOf bytes j t es .entries)
     × ((limit : ℕ) (past : List ℕ) → AfterUse limit past j t es → ToldUse limit past bytes j t es (record { verdict = c .judged .verdict; judge = c .judged .judge; tally = c .tally; entries = zs }))))
 lent-told bytes j t es zs c ce ze =
     let a : Accounted = accountedFor bytes j t (sixteenOf es) (length es) in
@@ -213,7 +211,7 @@ lent-told bytes j t es zs c ce ze =
     ap (λ (x : Call). record { verdict = x .judged .verdict; judge = x .judged .judge; tally = x .tally; entries = zs }) ce
     ∙ ap (λ (x : List Entry). record { verdict = a .verdict; judge = a .judge; tally = a .tally; entries = x }) entries
     ∙ is in
-    (ap judgedIn all, (ap (λ (x : Accounted). x .tally) all, (ap (λ (x : Accounted). x .entries) all, told-use-of bytes j t es _ all)))
+    (ap judgesAnswer all, (ap (λ (x : Accounted). x .tally) all, (ap (λ (x : Accounted). x .entries) all, told-use-of bytes j t es _ all)))
 
 -- ---- one slot's entry of an account that is lent
 own-lent : (slot : ℕ) (es : List Entry) → ownEntry slot (sixteenOf es) ≡ ownEntry slot es
@@ -224,6 +222,5 @@ own-lent slot es =
     (λ e. cond-false _ _ e ∙ sym (cond-false _ _ e))
 
 pub share-lent : (slot : ℕ) (t : Tally) (es : List Entry) → shareFor slot t (sixteenOf es) (length es) ≡ shareOf slot t es
-unfolding shareFor shareOf shareRefusal
-share-lent slot t es =
-    ap (λ (e : Entry). answered (unless (tallyBounds t && entryBounds t e) 5 (unless (eqb (length es) 16) 1 (unless (leb slot 15) 2 0))) e) (own-lent slot es)
+unfolding shareFor shareOf
+share-lent slot t es = ap (λ (e : Entry). answerBy (shareRefusal slot t e (length es)) e) (own-lent slot es)

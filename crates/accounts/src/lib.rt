@@ -12,9 +12,9 @@ ghost use mathlib.Core.List.{List};
 ghost use Prim.Native.Nat.{ℕ, _+_};
 ghost use lib.Dec.{leb};
 ghost use Rattle.basics.specs.Order.{unless};
-ghost use Rattle.usage.specs.Calls.{entryBounds, entriesBounds, accountedOf, judgedIn, ownEntry, shareOf, shareAnswer};
+ghost use Rattle.usage.specs.Calls.{entryBounds, entriesBounds, refusalFor, accountedOf, judgesAnswer, ownEntry, answerBy, shareOf, shareAnswer};
 ghost use Rattle.usage.specs.Told.{AfterUse, ToldUse};
-ghost use Rattle.accounts.specs.ByValue.{refusalFor, accountedFor, callOf, answered, shareFor};
+ghost use Rattle.accounts.specs.ByValue.{accountedFor, callOf, shareFor};
 use entries::Entry;
 use rules::Judge;
 use rules::Judged;
@@ -154,7 +154,7 @@ pub fn judge_accounts(
     tally: &mut Tally,
     account: &mut [Entry],
 ) -> Judged
-    ensures { λ r. ⌜ (r ≡ judgedIn (accountedOf (now (bytes .entry)) judge (now (tally .entry)) (now (account .entry)))) × ((now (tally .exit) ≡ accountedOf (now (bytes .entry)) judge (now (tally .entry)) (now (account .entry)) .tally) × ((now (account .exit) ≡ accountedOf (now (bytes .entry)) judge (now (tally .entry)) (now (account .entry)) .entries) × ((limit : ℕ) (past : List ℕ) → AfterUse limit past judge (now (tally .entry)) (now (account .entry)) → ToldUse limit past (now (bytes .entry)) judge (now (tally .entry)) (now (account .entry)) (record { verdict = r .verdict; judge = r .judge; tally = now (tally .exit); entries = now (account .exit) })))) ⌝ }
+    ensures { λ r. ⌜ (r ≡ judgesAnswer (accountedOf (now (bytes .entry)) judge (now (tally .entry)) (now (account .entry)))) × ((now (tally .exit) ≡ accountedOf (now (bytes .entry)) judge (now (tally .entry)) (now (account .entry)) .tally) × ((now (account .exit) ≡ accountedOf (now (bytes .entry)) judge (now (tally .entry)) (now (account .entry)) .entries) × ((limit : ℕ) (past : List ℕ) → AfterUse limit past judge (now (tally .entry)) (now (account .entry)) → ToldUse limit past (now (bytes .entry)) judge (now (tally .entry)) (now (account .entry)) (record { verdict = r .verdict; judge = r .judge; tally = now (tally .exit); entries = now (account .exit) })))) ⌝ }
 {
     let entries = entries::gather(account);
     let end = judge_by_value(bytes, judge, *tally, entries, account.len());
@@ -178,7 +178,7 @@ fn own_entry(slot: u8, entries: [Entry; 16]) -> Entry
 
 // The answer, by what holds: 5 where the values are out of bounds, 1 where the account is not of sixteen entries, 2 where there is no such slot.
 fn answer(bounded: bool, sixteen: bool, named: bool, own: Entry) -> Share
-    ensures { λ r. ⌜ shareAnswer r ≡ answered (unless bounded 5 (unless sixteen 1 (unless named 2 0))) own ⌝ }
+    ensures { λ r. ⌜ shareAnswer r ≡ answerBy (unless bounded 5 (unless sixteen 1 (unless named 2 0))) own ⌝ }
 {
     if bounded {
         if sixteen {

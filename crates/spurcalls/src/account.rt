@@ -3,7 +3,7 @@ ghost use mathlib.Core.Path.{_≡_};
 ghost use mathlib.Core.List.{_++_};
 ghost use Prim.Native.Nat.{_≤_, _<_};
 ghost use lib.ListN.{take, drop};
-ghost use Rattle.usage.specs.Calls.{accountedOf, judgedIn, shareOf, shareAnswer};
+ghost use Rattle.usage.specs.Calls.{accountedOf, judgesAnswer, shareOf, shareAnswer};
 use crate::numbers;
 use crate::recordings;
 use crate::recordings::Bench;
@@ -29,7 +29,7 @@ struct Answered {
 // A recording's next bytes, judged with the tally and the first n entries lent to the library.
 fn judge_lent(bytes: &[u8], state: Judge, totals: Tally, entries: [Entry; 17], n: usize) -> Answered
     requires { ⌜ n ≤ 17 ⌝ }
-    ensures { λ r. ⌜ (r .judged ≡ judgedIn (accountedOf (now (bytes .entry)) state totals (take n entries))) × ((r .tally ≡ accountedOf (now (bytes .entry)) state totals (take n entries) .tally) × (r .account ≡ accountedOf (now (bytes .entry)) state totals (take n entries) .entries ++ drop n entries)) ⌝ }
+    ensures { λ r. ⌜ (r .judged ≡ judgesAnswer (accountedOf (now (bytes .entry)) state totals (take n entries))) × ((r .tally ≡ accountedOf (now (bytes .entry)) state totals (take n entries) .tally) × (r .account ≡ accountedOf (now (bytes .entry)) state totals (take n entries) .entries ++ drop n entries)) ⌝ }
 {
     let mut tally = totals;
     let mut account = entries;

@@ -91,7 +91,7 @@ busy-split : {A : Type 0} (r : Lines) (s i c : ℕ) → Busy r s (suc i) c → (
 busy-split r s i c b p q =
     below (b .end) i (b .within)
     (λ lt. p (record { start = b .start; end = b .end; within = lt; slot = b .slot; ends = b .ends; low = b .low; high = b .high }))
-    (λ e. q (b .start) (b .slot) (subst (λ x. Ends r (b .start) x) e (b .ends)) (b .low))
+    (λ e. q (b .start) (b .slot) (subst (λ x. Ends r (b .start) x) e (b .ends)) (let z = b .low in omega arith))
 
 -- ---- what a record closes
 -- something of this slot, so many cycles long, both ends counted; or nothing, which adds nothing

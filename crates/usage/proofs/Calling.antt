@@ -30,7 +30,7 @@ use Rattle.feeding.proofs.GoOn.{run-count}
 use Rattle.usage.specs.declared.Accounted.{Accounted}
 use Rattle.usage.specs.Using.{Used, UsedBy}
 use Rattle.usage.specs.Charge.{noneUsed, Passes, accountOf}
-use Rattle.usage.specs.Calls.{entryBounds, entriesBounds, accountRefusal, accountedIn, accountedOf, outcomeIn, ownEntry, shareRefusal, shareOf}
+use Rattle.usage.specs.Calls.{entryBounds, entriesBounds, refusalFor, accountRefusal, accountedIn, accountedOf, judgesOutcome, ownEntry, shareRefusal, shareOf}
 use Rattle.usage.specs.Told.{AfterUse, fresh as freshUse, later as laterUse, startsOf}
 use Rattle.usage.proofs.Running.{stateOf, run-passes, account-append}
 use Rattle.usage.proofs.Counting.{used}
@@ -49,14 +49,14 @@ accounted-refused bytes j t es ne = cond-false _ _ (ne-eqb (accountRefusal (leng
 
 -- with an account of sixteen entries within their bounds a call is refused as the judge's own is
 pub refusal-same : (size : ℕ) (j : Judge) (t : Tally) (es : List Entry) → entriesBounds t es ≡ true → length es ≡ 16 → accountRefusal size j t es ≡ refusalOf size j t
-unfolding accountRefusal refusalOf
+unfolding accountRefusal refusalFor refusalOf
 refusal-same size j t es b long =
     let all : take 16 es ≡ es = take-all 16 es (omega arith) in
     simp (all, b, eq-eqb (length es) 16 long, and-true)
 
 -- what is accepted has sixteen entries within their bounds
 pub accepted-bounds : (size : ℕ) (j : Judge) (t : Tally) (es : List Entry) → accountRefusal size j t es ≡ 0 → (entriesBounds t es ≡ true) × (length es ≡ 16)
-unfolding accountRefusal
+unfolding accountRefusal refusalFor
 accepted-bounds size j t es e =
     let a = unless-zero (judgeBounds j && tallyBounds t && entriesBounds t (take 16 es)) 5 _ refl e in
     let b = unless-zero (leb (t .records + size / 16) mostRecords) 8 _ refl (a .1) in
@@ -66,13 +66,13 @@ accepted-bounds size j t es e =
     (ap (entriesBounds t) (sym all) ∙ and-both (judgeBounds j && tallyBounds t) (entriesBounds t (take 16 es)) (a .0) .1, long)
 
 -- the judge's own part of such a call
-pub outcome-same : (bytes : List ℕ) (j : Judge) (t : Tally) (es : List Entry) → entriesBounds t es ≡ true → length es ≡ 16 → outcomeIn (accountedOf bytes j t es) ≡ outcomeOf bytes j t
+pub outcome-same : (bytes : List ℕ) (j : Judge) (t : Tally) (es : List Entry) → entriesBounds t es ≡ true → length es ≡ 16 → judgesOutcome (accountedOf bytes j t es) ≡ outcomeOf bytes j t
 outcome-same bytes j t es b long =
     by-test (eqb (refusalOf (length bytes) j t) 0)
     (λ e. let z = eqb-true (refusalOf (length bytes) j t) 0 e in
-    ap outcomeIn (accounted-judged bytes j t es (same ∙ z)) ∙ sym (outcome-judged bytes j t z))
+    ap judgesOutcome (accounted-judged bytes j t es (same ∙ z)) ∙ sym (outcome-judged bytes j t z))
     (λ e. let ne = eqb-false (refusalOf (length bytes) j t) 0 e in
-    ap outcomeIn (accounted-refused bytes j t es (λ z. ne (sym same ∙ z)))
+    ap judgesOutcome (accounted-refused bytes j t es (λ z. ne (sym same ∙ z)))
     ∙ ap (λ (n : ℕ). record { verdict = refusedBy n; judge = j; tally = t }) same
     ∙ sym (outcome-refused bytes j t ne))
   where
@@ -120,7 +120,7 @@ past-use limit _ _ _ _ (laterUse {past} {j} {next} {t} {tally} {account} {entrie
         let w = was .whole in
         let n : length past / 16 + length now / 16 ≡ length (past ++ now) / 16 = omega (arith, length-append past now) in
         record {
-          after = later now (h .after) (sym (outcome-same now j t account (bounds .0) (bounds .1)) ∙ ap outcomeIn e);
+          after = later now (h .after) (sym (outcome-same now j t account (bounds .0) (bounds .1)) ∙ ap judgesOutcome e);
           account = sym (ap (λ (x : Accounted). x .entries) is)
               ∙ ap (λ (m : ℕ). accountOf j account (recordsIn m now)) k
               ∙ ap (λ (x : List Entry). accountOf j x (recordsIn (length now / 16) now)) (h .account)

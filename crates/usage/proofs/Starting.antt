@@ -40,7 +40,7 @@ starts-in r i s nr = rw (s, nr)
 -- a record that is no START is charged to the owner
 pub charged-owner : (w : Wave) (r : Record) (d : ℕ) → startsIn r ≡ false → chargedTo w r d ≡ slotOf (w .owner)
 unfolding chargedTo
-charged-owner w r d e = cond-false _ _ (ap (λ (b : Bool). b && askedOf w d) e)
+charged-owner w r d e = simp e
 
 pub starter : (r : Lines) (i : ℕ) (w : Wave) → Forward r i → WaveIs r i w → Rule8a r i → r i .start ≡ true → r i .reset ≡ false → StartOf r (chargedTo w (r i) (gap r i)) i
 unfolding chargedTo

@@ -33,7 +33,7 @@ use Rattle.feeding.proofs.GoOn.{run-count}
 use Rattle.usage.specs.declared.Accounted.{Accounted}
 use Rattle.usage.specs.Using.{Busy, UsedBy}
 use Rattle.usage.specs.Charge.{noneUsed, Passes, accountOf}
-use Rattle.usage.specs.Calls.{accountRefusal, accountedIn, accountedOf, outcomeIn}
+use Rattle.usage.specs.Calls.{accountRefusal, accountedIn, accountedOf, judgesOutcome}
 use Rattle.usage.specs.Told.{AfterUse, fresh as freshUse, later as laterUse, Reckoned, ToldUse, Accounting}
 use Rattle.usage.proofs.BusyCycles.{busy-before}
 use Rattle.usage.proofs.Running.{stateOf, run-passes, Passed, passed, passes-append, account-own}
@@ -203,7 +203,7 @@ breach-leaves limit past now j t es b a e =
     (λ z. absurd (false≢true (sym (refused-unbroken (accountRefusal (length now) j t es)) ∙ ap (λ (x : Accounted). broke (x .verdict)) (sym (accounted-refused now j t es (eqb-false (accountRefusal (length now) j t es) 0 z))) ∙ ap broke e)))
   where
     cut : Cut limit (past ++ now) (accountedOf now j t es .judge) (accountedOf now j t es .tally) (b .place)
-    cut = told-cut limit past now j t (outcomeIn (accountedOf now j t es)) b e (told-use limit past now j t es a .judged)
+    cut = told-cut limit past now j t (judgesOutcome (accountedOf now j t es)) b e (told-use limit past now j t es a .judged)
 
     part : List ℕ
     part = take (b .place * 16) (past ++ now)

@@ -21,7 +21,8 @@ use Rattle.rules.specs.Run.{Taken, ruleOf}
 abbrev pub noneUsed : List Entry
 noneUsed = replicate 16 zeroEntry
 
--- the owner's slot; where there is nobody no START is parked, by rule 8a, and nothing is open
+-- the owner's slot. Where there is nobody no START is parked, by rule 8a, and nothing is open; a state made by hand in which something is counts as
+-- slot 0's
 abbrev pub slotOf : Owner → ℕ
 slotOf Nobody = 0
 slotOf (Slot slot) = slot

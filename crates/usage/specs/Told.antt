@@ -21,7 +21,7 @@ use Rattle.rules.specs.Exact.{counted, Told}
 use Rattle.usage.specs.declared.Accounted.{Accounted}
 use Rattle.usage.specs.Using.{Busy, Used, UsedBy}
 use Rattle.usage.specs.Charge.{noneUsed}
-use Rattle.usage.specs.Calls.{accountRefusal, accountedOf, outcomeIn, shareOf}
+use Rattle.usage.specs.Calls.{accountRefusal, accountedOf, judgesOutcome, shareOf}
 
 -- what a caller holds who began with a fresh judge, zero totals and an account of nothing, and was told of each part so far that it conforms; `past` is
 -- all bytes given so far
@@ -41,7 +41,7 @@ Reckoned past now account Torn entries = entries ≡ account
 
 -- what he is told: the judge's own promise, and the account
 pub record ToldUse (limit : ℕ) (past now : List ℕ) (j : Judge) (t : Tally) (account : List Entry) (a : Accounted) : Type 0 where
-  pub judged : Told limit past now j t (outcomeIn a)
+  pub judged : Told limit past now j t (judgesOutcome a)
   pub reckoned : Reckoned past now account (a .verdict) (a .entries)
 
 -- the STARTs of all entries together

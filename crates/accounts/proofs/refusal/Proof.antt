@@ -1,5 +1,5 @@
 -- `accounts::refusal` meets its contract. Assumes nothing.
-use Rattle.accounts.specs.ByValue.{refusalFor}
+use Rattle.usage.specs.Calls.{refusalFor}
 use borrow.Author.Needs.{needs}
 use Rattle.accounts.proofs.refusal.Statement.{statement}
 use Rattle.accounts.proofs.refusal.Tie as tie

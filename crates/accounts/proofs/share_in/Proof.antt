@@ -1,5 +1,6 @@
 -- `accounts::share_in` meets its contract. Assumes nothing.
 use mathlib.Core.Path.{_∙_}
+use Rattle.usage.specs.Calls.{shareRefusal}
 use Rattle.accounts.specs.ByValue.{shareFor}
 use borrow.Author.Needs.{needs}
 use Rattle.accounts.proofs.share_in.Statement.{statement}
@@ -18,7 +19,7 @@ answer-requires : tie.Need-answer-requires
 answer-requires c κs = search needs
 
 returns : tie.Need-returns
-unfolding shareFor
+unfolding shareFor shareRefusal
 returns c = c .answer .ensures ∙ simp (c .before .entry-in-bounds .ensures, c .before .before .tally-in-bounds .ensures, c .before .before .before .own-entry .ensures)
 
 pub share-in-spec : {M : Type 1} → statement M

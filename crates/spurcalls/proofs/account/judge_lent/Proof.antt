@@ -59,7 +59,7 @@ use Rattle.rules.proofs.Tally.Laws as T′
 use Rattle.rules.proofs.Judged as Vd
 use Rattle.rules.proofs.Judged.Laws as Vd′
 use Rattle.usage.specs.declared.Accounted.{Accounted}
-use Rattle.usage.specs.Calls.{accountedOf, judgedIn}
+use Rattle.usage.specs.Calls.{accountedOf, judgesAnswer}
 use Rattle.accounts.proofs.judge_accounts as callee
 use Rattle.accounts.proofs.judge_accounts.Symbol as callee-def
 use Rattle.accounts.proofs.judge_accounts.Symbol.{name as #accounts·judge-accounts}
@@ -162,7 +162,7 @@ module _ {M : Type 1} (𝓤 : URA M) (H : Heap 𝓤) (A : Atoms 𝓤) (W : Given
   found = accountedOf (s .now) j h ys
 
   abbrev said : Judged
-  said = judgedIn found
+  said = judgesAnswer found
 
   abbrev z : Tally
   z = found .tally
