@@ -49,7 +49,7 @@ pub record Sound (b : Bus) : Type 0 where
   pub rest : b .wave ≡ 0 → b .turn ≡ 0
   pub still : b .wave ≡ 0 → b .settling ≡ 0
 
-pub left-most : (t : Transfer) → TransferIn t → left t ≤ 256
+pub left-most : (t : Transfer) → TransferIn t → left t ≤ watchdog
 unfolding left
 left-most Idle h = omega arith
 left-most (Open w a) h = omega arith

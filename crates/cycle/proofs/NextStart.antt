@@ -1,4 +1,4 @@
--- While a wave has members, its next START comes within 257 cycles. Assumes nothing.
+-- While a wave has members, its next START comes within the longest pause. Assumes nothing.
 use Prim.Native.Nat.{suc, _-_, _<_}
 use mathlib.Core.Path.{_≡_, refl}
 use mathlib.Core.List.{List, [], _∷_}

@@ -8,6 +8,7 @@ use native.Mathlib.Omega.{arith}
 use lib.ListN.{length}
 use lib.Dec.{eqb}
 use borrow.Author.Tests.{eq-eqb, ne-eqb, eqb-true, eqb-false}
+use Rattle.basics.specs.Numbers.{watchdog}
 use Rattle.slots.specs.Set.{mem, top}
 use Rattle.slots.proofs.MemberLaws.{mem-kept}
 use Rattle.cycle.specs.declared.Bus.{Bus}
@@ -17,6 +18,7 @@ use Rattle.cycle.specs.declared.Transfer.the-variants.{Idle, Open}
 use Rattle.cycle.specs.Arbitration.{settledAt, formed, parked, waits, stays, leaves}
 use Rattle.cycle.specs.Cycle.{cycleOf, cycleBy, movedBy, stateBy, replyBy}
 use Rattle.cycle.specs.Runs.{Input, wantsIn, wordsIn, cycleIn, next, startIn, andThen, starters, count, Still, isSlot, Asks}
+use Rattle.cycle.specs.Waits.{pauseMost, turnsMost}
 use Rattle.cycle.proofs.RunLaws.{arb, nextBy, shownBy, wants-small, count-own, count-other}
 use Rattle.cycle.proofs.View.{Case, forms, parks, settles, holdsOff, repeats, retires, view}
 use Rattle.cycle.proofs.WaveSets.{mem-zero}
@@ -27,7 +29,7 @@ use Rattle.cycle.proofs.Shares.{asks-on, parkable, turnsOf, turns-empty
 
 -- with no wave, the cycles until the next START: with nothing open a parked one may come first
 unfoldable pub vacant : ℕ → Transfer → ℕ
-vacant m Idle = 2 + 255 * parkable m
+vacant m Idle = 2 + (watchdog - 1) * parkable m
 vacant m (Open w a) = max 2 (left (Open w a))
 
 -- the cycles until the next START
@@ -40,16 +42,16 @@ pause m b = pauseOf m (b .wave) (b .transfer) (wait b)
 unfoldable pub turns : ℕ → Bus → ℕ
 turns m b = turnsOf m (b .limit) (b .wave) (b .turn)
 
-vacant-most : (m : ℕ) (t : Transfer) → left t ≤ 256 → vacant m t ≤ 256 + parkable m
+vacant-most : (m : ℕ) (t : Transfer) → left t ≤ watchdog → vacant m t ≤ watchdog + parkable m
 unfolding vacant
 vacant-most m Idle h = omega arith
 vacant-most m (Open w a) h = omega (arith, h)
 
-pub pause-most : (m : ℕ) (b : Bus) → Sound b → pause m b ≤ 256 + parkable m
+pub pause-most : (m : ℕ) (b : Bus) → Sound b → pause m b ≤ watchdog + parkable m
 unfolding pause pauseOf
 pause-most m b s = go (eqb (b .wave) 0) (mem m (b .wave))
   where
-    go : (c d : Bool) → cond c (vacant m (b .transfer)) (wait b + cond d 0 (parkable m)) ≤ 256 + parkable m
+    go : (c d : Bool) → cond c (vacant m (b .transfer)) (wait b + cond d 0 (parkable m)) ≤ watchdog + parkable m
     go true d = vacant-most m (b .transfer) (left-most (b .transfer) (s .aging))
     go false true = omega (arith, wait-most b s)
     go false false = omega (arith, wait-most b s)
@@ -63,10 +65,10 @@ unfolding pause pauseOf
 pause-wave m b n = rw (ne-eqb (b .wave) 0 n)
 
 -- after a START m is in the wave, and no parked one can come before it; or it is not
-pause-start : (m : ℕ) (b : Bus) (w : ℕ) → Sound b → mem m (b .wave) ≡ mem m w → pause m b ≤ 256 + cond (mem m w) 0 (parkable m)
+pause-start : (m : ℕ) (b : Bus) (w : ℕ) → Sound b → mem m (b .wave) ≡ mem m w → pause m b ≤ watchdog + cond (mem m w) 0 (parkable m)
 pause-start m b w s q = go (mem m w) q
   where
-    go : (c : Bool) → mem m (b .wave) ≡ c → pause m b ≤ 256 + cond c 0 (parkable m)
+    go : (c : Bool) → mem m (b .wave) ≡ c → pause m b ≤ watchdog + cond c 0 (parkable m)
     go true e = rw (pause-wave m b (λ z. mem-zero m (b .wave) z e), e) (omega (arith, wait-most b s))
     go false e = pause-most m b s
 
@@ -79,7 +81,7 @@ unfolding vacant left
 vacant-least m Idle = omega arith
 vacant-least m (Open w a) = omega arith
 
-vacant-idle : (m : ℕ) (t : Transfer) → t ≡ Idle → vacant m t ≡ 2 + 255 * parkable m
+vacant-idle : (m : ℕ) (t : Transfer) → t ≡ Idle → vacant m t ≡ 2 + (watchdog - 1) * parkable m
 unfolding vacant
 vacant-idle m t e = rw e
 
@@ -105,10 +107,10 @@ count-slot m s l X f a = go (eqb s m) refl a
 
 module _ (m : ℕ) (small : m < 16) where
   abbrev pub Comes : List Input → Bus → Type 0
-  Comes is b = Asks m b is → pause m b + 257 * turns m b < length is → 0 < count m (starters b is)
+  Comes is b = Asks m b is → pause m b + pauseMost * turns m b < length is → 0 < count m (starters b is)
 
   comes-by : (b : Bus) (i : Input) (is : List Input) (r : Arbitration) → Sound b → Case b i r → ((b′ : Bus) → Sound b′ → Comes is b′)
-      → mem m (wantsIn i) ≡ true → pause m b + 257 * turns m b < suc (length is) → Still (isSlot m (shownBy b i r)) (Asks m (nextBy b i r) is)
+      → mem m (wantsIn i) ≡ true → pause m b + pauseMost * turns m b < suc (length is) → Still (isSlot m (shownBy b i r)) (Asks m (nextBy b i r) is)
       → 0 < count m (andThen (shownBy b i r) (starters (nextBy b i r) is))
   unfolding andThen nextBy shownBy cycleBy movedBy stateBy replyBy formed parked leaves turns
   comes-by b i is r s (forms z e) f w h =
@@ -150,7 +152,7 @@ module _ (m : ℕ) (small : m < 16) where
       comes-by b i is (arb b i) s (view b i) (λ b′ s′ a′ h′. comes-of is b′ s′ a′ h′) (on .0) h (on .1)
 
 -- the STARTs of others that m may still see in waves, from any state within the bounds
-pub turns-within : (m limit : ℕ) (b : Bus) → m < 16 → Sound b → b .limit ≡ limit → turns m b ≤ (30 - m) * limit
+pub turns-within : (m limit : ℕ) (b : Bus) → m < 16 → Sound b → b .limit ≡ limit → turns m b ≤ turnsMost limit m
 unfolding turns
 turns-within m limit b small s e =
     omega (arith, turns-most m limit (b .wave) (b .turn) small (s .slots), ap (λ (n : ℕ). turnsOf m n (b .wave) (b .turn)) e)

@@ -20,6 +20,7 @@ use Rattle.cycle.specs.declared.Arbitration.{Arbitration}
 use Rattle.cycle.specs.Arbitration.{formed, parked, waits, stays, leaves}
 use Rattle.cycle.specs.Cycle.{cycleOf, cycleBy, movedBy, stateBy, replyBy}
 use Rattle.cycle.specs.Runs.{Input, wantsIn, cycleIn, next, startIn, andThen, starters, ahead, Still, isSlot, Asks}
+use Rattle.cycle.specs.Waits.{turnsMost, othersMost}
 use Rattle.cycle.proofs.RunLaws.{arb, nextBy, shownBy, wants-small}
 use Rattle.cycle.proofs.NodeLaws.{wants-mean}
 use Rattle.cycle.proofs.View.{Case, forms, parks, settles, holdsOff, repeats, retires, view}
@@ -96,10 +97,10 @@ turns-parked m o limit wants k h e p d = go (decLt m o)
     go (no g) = omega (arith, turns-in m limit w 0 e′, mul-le-mul-left limit (above-most m w small))
 
 -- at most thirty turns less m
-pub turns-most : (m limit w t : ℕ) → m < 16 → w < 2 ^ 16 → turnsOf m limit w t ≤ (30 - m) * limit
+pub turns-most : (m limit w t : ℕ) → m < 16 → w < 2 ^ 16 → turnsOf m limit w t ≤ turnsMost limit m
 turns-most m limit w t k h = go (mem m w) refl
   where
-    go : (c : Bool) → mem m w ≡ c → turnsOf m limit w t ≤ (30 - m) * limit
+    go : (c : Bool) → mem m w ≡ c → turnsOf m limit w t ≤ turnsMost limit m
     go true e =
         let one : above m w ≤ 30 - m = omega (arith, above-most m w k) in
         omega (arith, turns-in m limit w t e, mul-le-mul-left limit one)
@@ -147,11 +148,11 @@ share-parked : (m o limit wants : ℕ) → 1 ≤ limit → wants < 2 ^ 16 → me
 share-parked m o limit wants k h e p d =
     omega (arith, share-in m limit (without o wants) 0 (mem-kept o m wants p d ∙ e), turns-parked m o limit wants k h e p d)
 
-share-most : (m limit w t : ℕ) → m < 16 → w < 2 ^ 16 → shareOf m limit w t ≤ (30 - m) * limit + parkable m
+share-most : (m limit w t : ℕ) → m < 16 → w < 2 ^ 16 → shareOf m limit w t ≤ othersMost limit m
 unfolding shareOf
 share-most m limit w t k h = go (mem m w) refl
   where
-    go : (c : Bool) → mem m w ≡ c → turnsOf m limit w t + cond (mem m w) 0 (parkable m) ≤ (30 - m) * limit + parkable m
+    go : (c : Bool) → mem m w ≡ c → turnsOf m limit w t + cond (mem m w) 0 (parkable m) ≤ othersMost limit m
     go true e = rw e (omega (arith, turns-most m limit w t k h))
     go false e = rw e (omega (arith, turns-most m limit w t k h))
 
@@ -219,13 +220,13 @@ module _ (m : ℕ) (small : m < 16) where
       ahead-by b i is (arb b i) s (view b i) (λ b′ s′ a′. ahead-of is b′ s′ a′) (on .0) (on .1)
 
 -- what m may see from any state within the bounds
-pub share-within : (m limit : ℕ) (b : Bus) → m < 16 → Sound b → b .limit ≡ limit → share m b ≤ (30 - m) * limit + min m 1
+pub share-within : (m limit : ℕ) (b : Bus) → m < 16 → Sound b → b .limit ≡ limit → share m b ≤ othersMost limit m
 unfolding share
 share-within m limit b small s e =
     omega (arith, share-most m limit (b .wave) (b .turn) small (s .slots), ap (λ (n : ℕ). shareOf m n (b .wave) (b .turn)) e)
 
 -- so thirty times the limit for each slot
-pub thirty-most : (limit m : ℕ) → 1 ≤ limit → m < 16 → (30 - m) * limit + min m 1 ≤ 30 * limit
+pub thirty-most : (limit m : ℕ) → 1 ≤ limit → m < 16 → othersMost limit m ≤ 30 * limit
 thirty-most limit zero k small = omega arith
 thirty-most limit (suc n) k small =
     let one : suc (29 - n) ≤ 30 = omega arith in

@@ -5,5 +5,6 @@ pub mod Transfers
 pub mod Cycle
 pub mod Nodes
 pub mod Runs
+pub mod Waits
 pub mod Demand3
 pub mod Pinned

@@ -9,6 +9,7 @@ use lib.ListN.{replicate, getD, set, length, length-append, length-replicate, le
 use lib.Seq.{getD-set-same, getD-set-other}
 use lib.Dec.{eqb}
 use borrow.Author.Tests.{eqb-true}
+use Rattle.basics.specs.Numbers.{watchdog}
 use Rattle.basics.specs.Lines.{bit, active, activeBelow}
 use Rattle.basics.proofs.Bools.{and-both, both-and}
 use Rattle.slots.specs.Set.{including, without, topBelow}
@@ -23,6 +24,7 @@ use Rattle.cycle.specs.Arbitration.{attends, formed, parked, forming, leaves, s
 use Rattle.cycle.specs.Transfers.{opened, attention, shortOf, struck, goingOn, progressOf}
 use Rattle.cycle.specs.Cycle.{stateBy, replyBy, movedBy, cycleBy, cycleOf}
 use Rattle.cycle.specs.Nodes.{blank, joinedOf, addOf, gathered, setsOf}
+use Rattle.cycle.specs.Waits.{pauseMost, othersMost, cyclesMost}
 use Rattle.cycle.specs.Runs.{Input, cycleIn, next, after, startIn, andThen, starters, overIn, count, ahead, Still, isSlot, Asks}
 use Rattle.reached.specs.Reached.{PausesAfterStart, PausesAfterForming, Lasts, Sees, Waits}
 use Rattle.cycle.proofs.NodeLaws.{words-mean}
@@ -110,7 +112,7 @@ before m = around 3 (mixed Nothing m (holding 0) blank (omega arith) (omega arit
 -- then it asks again, and each transfer goes on until the watchdog ends it
 unfoldable slowly : ℕ → ℕ → List Input
 slowly limit m =
-    around (257 * (15 * limit) - 1) (slow 1 (omega arith)) (slow (1 - min m 1) (omega arith)) (257 * ((15 - m) * limit + 1) - 1 + min m 1)
+    around (pauseMost * (15 * limit) - 1) (slow 1 (omega arith)) (slow (1 - min m 1) (omega arith)) (pauseMost * ((15 - m) * limit + 1) - 1 + min m 1)
 
 -- what holds of each cycle of a list
 abbrev Each : (Input → Type 0) → List Input → Type 0
@@ -167,7 +169,7 @@ below-at (suc k) f e m l =
 
 -- the tests that are computed
 unfoldable seen : ℕ → ℕ → Bool
-seen limit m = eqb (ahead m (starters (after (fresh limit) (others m)) (later limit m))) ((30 - m) * limit + min m 1)
+seen limit m = eqb (ahead m (starters (after (fresh limit) (others m)) (later limit m))) (othersMost limit m)
 
 unfoldable late : ℕ → ℕ → Bool
 late limit m = eqb (count m (starters (after (fresh limit) (before m)) (slowly limit m))) 0
@@ -194,7 +196,7 @@ pub sees-16 : (m : ℕ) → m < 16 → Sees 16 m
 sees-16 m l = sees-by 16 m l (below-at 16 (seen 16) (computed .1) m l)
 
 -- THE OWN START, one cycle less: the slots 0 and 15 at limit 1
-slowly-length : (limit m : ℕ) → 1 ≤ limit → m < 16 → length (slowly limit m) + 1 ≡ 257 * ((30 - m) * limit + 1) + min m 1
+slowly-length : (limit m : ℕ) → 1 ≤ limit → m < 16 → length (slowly limit m) + 1 ≡ cyclesMost limit m
 unfolding slowly around
 slowly-length limit m k l =
     let one : (30 - m) * limit ≡ 15 * limit + (15 - m) * limit =
@@ -218,7 +220,7 @@ waits-0 = waits-by 0 (omega arith) (computed .2)
 pub waits-15 : Waits 1 15
 waits-15 = waits-by 15 (omega arith) (computed .3)
 
--- THE PAUSE of 256 cycles, at every limit: nobody holds, and the slave is silent
+-- THE PAUSE, one cycle less, at every limit: nobody holds, and the slave is silent
 unfoldable still : Input
 still = all Nothing (asking 1) (omega arith)
 
@@ -233,7 +235,7 @@ pauses-after-start limit =
     record {
       past = replicate 2 still;
       i = still;
-      future = replicate 256 still;
+      future = replicate watchdog still;
       starter = 15;
       starts = refl;
       members = fifteen _ refl;
@@ -248,7 +250,7 @@ pauses-after-forming limit =
     record {
       past = replicate 3 (mixed Nothing 15 (asking 0) blank (omega arith) (omega arith));
       i = still;
-      future = replicate 256 still;
+      future = replicate watchdog still;
       empty = refl;
       members = fifteen _ refl;
       long = refl;
@@ -261,7 +263,7 @@ unfolding still all mixed overIn after next cycleIn cycleOf cycleBy movedBy stat
 lasts-1 =
     record {
       past = replicate 3 (mixed Nothing 15 (asking 0) blank (omega arith) (omega arith)) ++ (still ∷ []);
-      future = replicate 3854 still;
+      future = replicate (pauseMost * 15 - 1) still;
       long = refl;
       lasts = refl;
     }
