@@ -117,7 +117,7 @@ twice-exact r (suc n) f = (
 
 -- ---- the wave
 -- its last START: none so far, or x cycles before the record before i
-data Latest (r : Lines) (i b s a : ℕ) : Type 0 where
+pub data Latest (r : Lines) (i b s a : ℕ) : Type 0 where
   unstarted : ((n : ℕ) → b < n → n < i → r n .start ≡ false) → s ≡ 3 → a ≡ 15 → Latest r i b s a
   started : (m x : ℕ) → LastStart r i b m → cycle r m + x + gap r i ≡ cycle r i → s ≡ capped x → a ≡ r m .arb → Latest r i b s a
 
@@ -357,10 +357,10 @@ began-not r i b (suc p) h g lt =
     let e = g .earlier in
     g .first (asks-last r p 1 (and-pair (h .active p (omega arith) (omega arith)) (not-off (h .unbroken p (omega arith) (omega arith)))) (h .each (suc p) lt (omega arith)))
 
-began-only : (r : Lines) (i b n : ℕ) → Began r i b → Began r i n → b ≡ n
+pub began-only : (r : Lines) (i b n : ℕ) → Began r i b → Began r i n → b ≡ n
 began-only r i b n h g = same-place b n (began-not r i b n h g) (began-not r i n b g h)
 
-last-only : (r : Lines) (i b m n : ℕ) → LastStart r i b m → LastStart r i b n → m ≡ n
+pub last-only : (r : Lines) (i b m n : ℕ) → LastStart r i b m → LastStart r i b n → m ≡ n
 last-only r i b m n h g =
     same-place m n (λ lt. clash (g .turn .starts) (h .none n lt (g .turn .earlier))) (λ lt. clash (h .turn .starts) (g .none m lt (h .turn .earlier)))
 
@@ -523,3 +523,26 @@ asked-began r i w f h a = by-ride (h .ride)
     by-ride : Riding r i (w .since) (w .arb) (w .turn) → (b : ℕ) × Began r i b
     by-ride (off idle _ _ _) = clash (and-both (eqb (gap r i) 1) (last r i) y .1) idle
     by-ride (on act b u) = (b, began-of r i b f (u .lasts) (eqb-true (gap r i) 1 (and-both (eqb (gap r i) 1) (last r i) y .0)))
+
+-- the wave that lasts until the cycle before record i, as the judge has it: where it began, its last START, and how many STARTs had that one's ARB
+pub record Lasts (r : Lines) (i : ℕ) (w : Wave) : Type 0 where
+  pub place : ℕ
+  pub began : Began r i place
+  pub latest : Latest r i place (w .since) (w .arb)
+  pub turn : w .turn ≡ count (startWith r place (w .arb)) i
+
+pub lasts : (r : Lines) (i : ℕ) (w : Wave) → Forward r i → WaveIs r i w → askedOf w (gap r i) ≡ true → Lasts r i w
+lasts r i w f h e = by-ride (h .ride)
+  where
+    y : asked r i ≡ true
+    y = sym (asked-is r i w h) ∙ e
+
+    by-ride : Riding r i (w .since) (w .arb) (w .turn) → Lasts r i w
+    by-ride (off idle _ _ _) = clash (and-both (eqb (gap r i) 1) (last r i) y .1) idle
+    by-ride (on act b u) =
+        record {
+          place = b;
+          began = began-of r i b f (u .lasts) (eqb-true (gap r i) 1 (and-both (eqb (gap r i) 1) (last r i) y .0));
+          latest = u .latest;
+          turn = u .turn;
+        }

@@ -1,0 +1,4 @@
+pub mod DigitLaws
+pub mod FigureLaws
+pub mod TimeLaws
+pub mod Examples

@@ -1,0 +1,3 @@
+pub mod Wording
+pub mod Printing
+pub mod Examples

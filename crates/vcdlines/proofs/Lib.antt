@@ -1,0 +1,3 @@
+pub mod ChangeLaws
+pub mod ReadingLaws
+pub mod Examples

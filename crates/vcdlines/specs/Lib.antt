@@ -1,0 +1,3 @@
+pub mod Signals
+pub mod Dump
+pub mod Head
