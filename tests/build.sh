@@ -11,6 +11,7 @@ model="record codes contest bus cache judging accounts calls"
 makers="make traffic wild owners damage callsmake callsbus callscache callsjudge callsaccount"
 marks="marks marked"
 running="run describe compare"
+desk="deskquote deskfleet deskshow deskwhy deskbound deskback deskrows deskfigures"
 for c in *.c; do
     ${CC:-cc} $flags -c -o "$out/obj/${c%.c}.o" "$c"
 done
@@ -28,6 +29,10 @@ link modelphases marks $model
 link modelaccounts $model
 link phases phasewords $marks $model $makers $running
 link selftest lookback selfmarks marksback selfaccounts accountsback accountsmet $marks $model $makers
+link desk $desk $model $makers $running
+link modeldesk deskfigures deskrows deskcause run $model make
+link vcdsamples
+link barpixels
 link makerec $marks $model $makers
 link makecalls $model $makers
 for p in judge make; do

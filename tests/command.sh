@@ -224,7 +224,7 @@ usage() {
     unjudged 'a limit behind the recording' 'spur: *' "$boot" --limit 4
     list=$("$spur" help)
     commands=$(printf '%s\n' "$list" | sed -n 's/^ *\.\/spur \([a-z]*\).*/\1/p' | tr '\n' ' ')
-    count 'the commands that help lists' "$([ "$commands" = 'judge phases accounts test soak bench help ' ] && echo 0 || echo 1)" "$commands"
+    count 'the commands that help lists' "$([ "$commands" = 'judge phases accounts report fleet explain vcd quote test soak bench help ' ] && echo 0 || echo 1)" "$commands"
     expect 'help' 0 "$list" '' "$spur" help
     expect '--help' 0 "$list" '' "$spur" --help
     expect 'no command' 3 "$list" '' "$spur"
@@ -282,6 +282,7 @@ outputs() {
 . "$root/tests/firstuse.sh"
 . "$root/tests/bootreport.sh"
 . "$root/tests/accountscommand.sh"
+. "$root/tests/deskcommand.sh"
 verdicts
 early
 inputs
@@ -292,6 +293,7 @@ names
 outputs
 boot_report
 who_used
+analysts_desk
 progress
 first_use
 count 'no temporary folder is left' "$(rmdir "$work/rooms" 2>/dev/null && echo 0 || echo 1)" "$(ls "$work/rooms" 2>/dev/null)"

@@ -13,6 +13,9 @@ out=$(cd "$out" && pwd)
     tail -n 1 | sed 's/^/without a bug: /'
 "$out/phases" --program "$out/modelphases" --count "$count" --seed 1 |
     tail -n 1 | sed 's/^/without a bug: /'
+"$out/desk" --quote "$out/modeldesk quote" --seconds "$out/modeldesk seconds" --fleet "$out/modeldesk fleet" \
+    --show "$out/modeldesk show" --why "$out/modeldesk why" --count "$count" --seed 1 |
+    tail -n 1 | sed 's/^/without a bug: /'
 planted=0 caught=0
 
 plant() { # file, old, new: a copy of the file with the first old replaced, and the programs with it
@@ -34,9 +37,11 @@ plant() { # file, old, new: a copy of the file with the first old replaced, and 
             calls.o || exit 2
     done
     ${CC:-cc} -o ../modelphases modelphases.o marks.o record.o codes.o judging.o || exit 2
+    ${CC:-cc} -o ../modeldesk modeldesk.o deskfigures.o deskrows.o deskcause.o run.o make.o record.o \
+        codes.o judging.o || exit 2
 }
 
-# Those of a bug in the boot report, and of one in all else.
+# Those of a bug in the boot report, in the desk's programs, and of one in all else.
 by_phases() { # file
     "$out/phases" --program "$out/bug/modelphases" --count "$count" --seed 1 --first \
         $([ -z "$SHOW" ] && echo --unshrunk) >"$out/found" 2>&1 || by=phases
@@ -45,6 +50,12 @@ by_phases() { # file
         "$out/faults" --judge "$out/modeljudge" --phases "$out/bug/modelphases" --megabytes 1 \
             --quick >/dev/null 2>&1 || by="$by faults" ;;
     esac
+}
+
+by_desk() {
+    bug="$out/bug/modeldesk"
+    "$out/desk" --quote "$bug quote" --seconds "$bug seconds" --fleet "$bug fleet" --show "$bug show" \
+        --why "$bug why" --count "$count" --seed 1 --first >"$out/found" 2>&1 || by=desk
 }
 
 by_others() { # file
@@ -70,6 +81,7 @@ one() { # file, old, new, what
     by=
     case $1 in
     marks.c | modelphases.c) by_phases "$1" ;;
+    desk*.c | modeldesk.c) by_desk ;;
     *) by_others "$1" ;;
     esac
     if [ -n "$by" ]; then

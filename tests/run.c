@@ -62,11 +62,13 @@ static void program(const struct plan *p, int in, int out, int err)
     for (int fd = 3; fd < 64; fd++)
         close(fd);
     /* A plain command takes the shell's place, so that its own ending is seen. */
-    char line[8192];
-    size_t word = strcspn(p->command, " ");
+    size_t word = strcspn(p->command, " "), room = strlen(p->command) + 8;
+    char *line = malloc(room);
     int plain = strpbrk(p->command, ";|&()<>\n") == NULL &&
                 memchr(p->command, '=', word) == NULL;
-    snprintf(line, sizeof line, "%s%s", plain ? "exec " : "", p->command);
+    if (line == NULL)
+        _exit(126);
+    snprintf(line, room, "%s%s", plain ? "exec " : "", p->command);
     execl("/bin/sh", "sh", "-c", line, (char *)NULL);
     _exit(127);
 }
