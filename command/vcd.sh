@@ -30,6 +30,7 @@ vcd() { # FILE [FROM TO]
     number "$2" "$2 is no record's place: $usage"
     from=$plain
     number "$3" "$3 is no record's place: $usage"
+    [ "${#from}" -le 19 ] && [ "${#plain}" -le 19 ] || die "a record's place has at most 19 digits: $usage"
     can_be_written
     opened "$1" # before a build of minutes
     built spurshow

@@ -12,6 +12,8 @@ struct said {
 void buffer_say(struct buffer *b, const char *format, ...) __attribute__((format(printf, 2, 3)));
 
 /* --- the model in place of the programs --- */
+/* A figure among a program's words has at most so many digits. */
+enum { DIGITS = 19 };
 /* Digits alone, at most so many; 0 if the word is no such number. A number over 64 bits is the greatest. */
 int desk_number(const char *word, size_t most, uint64_t *n);
 struct said quote_program(char **words, size_t count);

@@ -135,6 +135,8 @@ dumps() {
     undone 'vcd: no number' vcd "$work/two" x 4
     undone 'vcd: no number behind' vcd "$work/two" 3 4x
     undone 'vcd: a limit' vcd --limit 4 "$work/two"
+    expect 'vcd: a place of nineteen digits and zeros' 0 "$dump_two" '' "$spur" vcd "$work/two" 0 009999999999999999999
+    undone 'vcd: a place of twenty digits' vcd "$work/two" 0 10000000000000000000
     unreadable_for vcd
     unreadable_for vcd 3 4
 }
@@ -167,17 +169,18 @@ runs() { # WHAT STATUS COMMAND..
         "status $status, not $right; it printed '$said' and complained '$(cat "$work/complaint")'"
 }
 
-# The nine records around the breach are rows, and its own is the one that is marked.
+# The records around the breach, six before it and two behind, are rows, its own the one that is marked, and there are no others.
 rows_around() { # WHAT TEXT FIRST BREACH LAST
     rows=0 marked=0 own=
     i=$3
     while [ "$i" -le "$5" ]; do
-        row=$(printf '%s\n' "$2" | grep -E "^[^0-9a-z]*(record )?$i( |\$)" | head -n 1)
+        row=$(printf '%s\n' "$2" | grep -E "^[^0-9A-Za-z]*$i " | head -n 1)
         [ -z "$row" ] || rows=$((rows + 1))
-        case $row in [!0-9r\ ]*) marked=$((marked + 1)) own=$i ;; esac
+        case $row in [!0-9\ ]*) marked=$((marked + 1)) own=$i ;; esac
         i=$((i + 1))
     done
-    count "$1: rows $3 to $5" "$([ "$rows" -eq $(($5 - $3 + 1)) ] && echo 0 || echo 1)" "$rows rows in: $2"
+    all=$(printf '%s\n' "$2" | grep -cE '^[^0-9A-Za-z]*[0-9]+ ')
+    count "$1: rows $3 to $5" "$([ "$rows" -eq $(($5 - $3 + 1)) ] && [ "$all" -eq "$rows" ] && echo 0 || echo 1)" "$rows of $all rows in: $2"
     count "$1: record $4 is marked" "$([ "$marked" -eq 1 ] && [ "$own" = "$4" ] && echo 0 || echo 1)" "$marked marked in: $2"
 }
 
@@ -185,15 +188,15 @@ explain_stdin() { "$spur" explain "$@" <"$root/samples/breach.rec"; }
 
 explained() {
     runs 'explain: a breach' 1 "$spur" explain "$root/samples/breach.rec"
-    tells 'explain: a breach' "$said" 8c 2783 14679 0.0014679 2 3
-    rows_around 'explain: a breach' "$said" 2779 2783 2787
+    tells 'explain: a breach' "$said" 8c 2783 14679 1467900 2 3
+    rows_around 'explain: a breach' "$said" 2777 2783 2785
     runs 'explain: standard input' 1 explain_stdin
     same=$said
     runs 'explain: standard input as -' 1 explain_stdin -
     count 'explain: the same' "$([ "$said" = "$same" ] && echo 0 || echo 1)" "$said"
     runs 'explain: limit 4' 1 "$spur" explain --limit 4 "$boot"
-    tells 'explain: limit 4' "$said" 11 2241 13935 0.0013935 5 4
-    rows_around 'explain: limit 4' "$said" 2237 2241 2245
+    tells 'explain: limit 4' "$said" 11 2241 13935 1393500 5 4
+    rows_around 'explain: limit 4' "$said" 2235 2241 2243
     runs 'explain: a conforming recording' 0 "$spur" explain "$boot"
     tells 'explain: a conforming recording' "$said" 4096 16163
     runs 'explain: a torn end' 2 "$spur" explain "$work/two-torn"

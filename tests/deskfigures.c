@@ -64,7 +64,7 @@ struct said quote_program(char **words, size_t count)
     return s;
 }
 
-enum { DIGITS = 19, MOST_NUMBERS = 4096 };
+enum { MOST_NUMBERS = 4096 };
 
 struct said seconds_program(char **words, size_t count)
 {

@@ -5,7 +5,7 @@
 #include <string.h>
 #include "desk.h"
 
-enum { DIGITS = 19, MOST = 4096 };
+enum { MOST = 4096 };
 static const struct feed no_input = {BY_FILE, 0};
 
 struct list {

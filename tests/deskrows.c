@@ -87,8 +87,8 @@ static void say_cycle(struct buffer *out, uint64_t cycle, const struct record *l
 int shower_fresh(struct shower *s, char **words, size_t count)
 {
     *s = (struct shower){0};
-    if (count != 3 || !desk_number(words[1], SIZE_MAX, &s->from) ||
-        !desk_number(words[2], SIZE_MAX, &s->to))
+    if (count != 3 || !desk_number(words[1], DIGITS, &s->from) ||
+        !desk_number(words[2], DIGITS, &s->to))
         return 0;
     s->dump = strcmp(words[0], "vcd") == 0;
     return s->dump || strcmp(words[0], "rows") == 0;

@@ -55,8 +55,8 @@ static void some_recording(struct rng *g, struct maker *m)
 static void some_range(struct rng *g, uint64_t records, char *from, char *to)
 {
     uint64_t a = rng_below(g, (uint32_t)records + 2), b = rng_below(g, (uint32_t)records + 2);
-    static const char *const huge[] = {"1073741824", "4294967295", "4294967296", "18446744073709551615",
-                                       "18446744073709551616", "1000000000000000000000000000000"};
+    static const char *const huge[] = {"1073741824", "4294967295", "4294967296", "9223372036854775808",
+                                       "9999999999999999999", "10000000000000000000"};
     snprintf(from, 64, "%llu", (unsigned long long)(a < b ? a : b));
     snprintf(to, 64, "%llu", (unsigned long long)(a < b ? b : a));
     switch (rng_below(g, 8)) {
@@ -235,8 +235,9 @@ static const struct {
     {"rows 0 0", 0, no_record}, {"vcd 0 0", 0, no_record}, {"rows 0 100", 0, no_record},
     {"vcd 5 9", 0, no_record}, {"rows 3 3", 3, no_record}, {"vcd 3 3", 3, no_record},
     {"rows 2 1", 3, no_record}, {"vcd 2 1", 3, no_record}, {"rows 3 0", 3, no_record},
-    {"vcd 1000000000000000000000000000000 1000000000000000000000000000001", 3, no_record},
-    {"rows 18446744073709551616 18446744073709551619", 3, no_record},
+    {"vcd 1000000000000000000000000000000 1000000000000000000000000000001", 3, "spurshow:"},
+    {"rows 18446744073709551616 18446744073709551619", 3, "spurshow:"},
+    {"rows 9223372036854775808 9999999999999999999", 3, no_record}, {"vcd 0 10000000000000000000", 3, "spurshow:"},
     {"rows 4294967296 4294967298", 3, no_record}, {"vcd 256 258", 3, no_record},
     {"", 3, "spurshow:"}, {"rows", 3, "spurshow:"}, {"vcd", 3, "spurshow:"}, {"rows 0", 3, "spurshow:"},
     {"vcd 0", 3, "spurshow:"}, {"rows 0 1 2", 3, "spurshow:"}, {"vcd 0 1 2", 3, "spurshow:"},
@@ -261,7 +262,7 @@ void desk_show_words(void)
     }
     for (int i = 0; i < 4; i++) { /* numbers with zeros in front */
         struct buffer in = {records, sizeof records, 0};
-        compare_show((char *[]){(char *)forms[i % 2], i < 2 ? "01" : "000000000000000000000000000001",
+        compare_show((char *[]){(char *)forms[i % 2], i < 2 ? "01" : "0000000000000000001",
                                 "0002"},
                      &in, (struct feed){BY_FILE, 0}, "zeros in front");
     }

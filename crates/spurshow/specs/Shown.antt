@@ -1,6 +1,6 @@
 -- What is shown of a recording: "one line for each record from place FROM to place TO, both counted from 0 and included, as far as there are records".
 -- Here as the program makes it, from a walk on and piece by piece; of the recording itself it is said in specs/Pages.
-use Prim.Native.Nat.{ℕ, _+_, _/_, _%_}
+use Prim.Native.Nat.{ℕ, _+_, _-_, _*_, _/_, _%_, min}
 use mathlib.Core.Bool.{Bool, true, false, cond, _&&_}
 use mathlib.Core.List.{List, [], _∷_, _++_}
 use lib.Dec.{eqb, ltb, leb}
@@ -55,6 +55,11 @@ walkedOver a w (t ∷ ts) = cond (goes a w) (walkedOver a (onward w (t .lines)) 
 -- the whole records of a piece
 abbrev pub recordsOf : List ℕ → List Taken
 recordsOf piece = recordsIn (length piece / 16) piece
+
+-- ---- reading
+-- how many bytes are read next, so many records having been walked: a piece, and none behind record TO, so that a pipe that stays open there isn't waited for
+unfoldable pub pieceOf : Asked → ℕ → ℕ
+pieceOf a place = min 1024 ((a .to + 1 - place) * 16)
 
 -- ---- the end
 -- what is wrong where the program reads no further: so many records were walked before the last piece, which has so many bytes, and so many after it.

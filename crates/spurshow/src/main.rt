@@ -8,7 +8,7 @@ ghost use Rattle.io.specs.Counts.{Counts};
 ghost use Rattle.printed.specs.Adding.{Adds};
 ghost use Rattle.rules.specs.Run.{takenIn};
 ghost use Rattle.walk.specs.Walks.{walkBounds, onward};
-ghost use Rattle.spurshow.specs.Shown.{goes, headOf, textOf, shown, walkedOver, recordsOf, endingOf, lastOf, rangeOf, requestOf};
+ghost use Rattle.spurshow.specs.Shown.{goes, headOf, textOf, shown, walkedOver, recordsOf, pieceOf, endingOf, lastOf, rangeOf, requestOf};
 use libc::STDERR_FILENO;
 use libc::STDIN_FILENO;
 use libc::STDOUT_FILENO;
@@ -236,11 +236,35 @@ fn request_given() -> Request {
 
 // ---- the program
 
-// A piece is 64 records, and so every piece but the input's last is whole records: their text has room in the text buffer.
+// A piece is 64 records at most, and every piece but the input's last is whole records: their text has room in the text buffer.
 const PIECE: usize = 1024;
 
 // As many pieces as 2^30 records have, and one more.
 const TURNS: u32 = 16777217;
+
+// How many bytes to read next, so many records having been walked: a piece, and none behind record TO.
+fn piece_size(asked: Asked, place: u32) -> usize
+    ensures { λ r. ⌜ r ≡ pieceOf asked place ⌝ }
+    ensures { λ r. ⌜ r ≤ 1024 ⌝ }
+{
+    let next = place as u64;
+    if asked.to < next {
+        return 0;
+    }
+    let behind = asked.to - next;
+    if 63 <= behind {
+        return PIECE;
+    }
+    (behind as usize + 1) * 16
+}
+
+// Reads so many bytes to the buffer's front, or what the input has left, and answers how many came.
+fn read_piece(buffer: &mut [u8], most: usize) -> usize
+    requires { ⌜ most ≤ length (now buffer) ⌝ }
+    ensures { λ r. ⌜ Counts r (now (buffer .exit)) ⌝ }
+{
+    io::read_full(STDIN_FILENO, &mut buffer[..most])
+}
 
 fn complain(line: &[u8]) {
     io::write_all(STDERR_FILENO, line);
@@ -271,13 +295,14 @@ fn show(asked: Asked) -> Ending {
     let mut turns: u32 = TURNS;
     while turns > 0 {
         let earlier = walk.place;
-        let size = io::read_full(STDIN_FILENO, &mut piece);
+        let most = piece_size(asked, earlier);
+        let size = read_piece(&mut piece, most);
         let part = show_piece(asked, walk, &piece[..size], &mut text);
         let place = part.place;
         let n = place.at;
         print(&text[..n]);
         walk = part.walk;
-        let short = size < PIECE;
+        let short = size < most;
         let over = asked.to < walk.place as u64;
         if short | over | (earlier == Judge::MOST_RECORDS) {
             let last = put_last(asked, walk, &mut text);

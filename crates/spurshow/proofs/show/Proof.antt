@@ -24,11 +24,14 @@ fresh-requires c κs = search needs
 loop-holds : tie.Need-loop-holds Inv-loop μ-loop
 loop-holds c = (search needs, (search needs, ap walkBounds (c .fresh .ensures) ∙ fresh-bounds))
 
-slice-aggregate-read-full : tie.Need-slice-aggregate-read-full Inv-loop μ-loop
-slice-aggregate-read-full c = search needs
+piece-size-requires : tie.Need-piece-size-requires Inv-loop μ-loop
+piece-size-requires c κs = search needs
 
-read-full-requires : tie.Need-read-full-requires Inv-loop μ-loop
-read-full-requires c κs = search needs
+slice-aggregate-read-piece : tie.Need-slice-aggregate-read-piece Inv-loop μ-loop
+slice-aggregate-read-piece c = search needs
+
+read-piece-requires : tie.Need-read-piece-requires Inv-loop μ-loop
+read-piece-requires c κs = search needs
 
 array-share-prefix-piece : tie.Need-array-share-prefix-piece Inv-loop μ-loop
 array-share-prefix-piece c = search needs
@@ -102,8 +105,9 @@ show-spec =
     large-buffer-requires
     fresh-requires
     loop-holds
-    slice-aggregate-read-full
-    read-full-requires
+    piece-size-requires
+    slice-aggregate-read-piece
+    read-piece-requires
     array-share-prefix-piece
     slice-aggregate-show-piece
     slice-aggregate-show-piece-2
