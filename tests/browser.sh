@@ -11,16 +11,15 @@ trap 'rm -rf "$work"' EXIT
 passed=0 failed=0
 . "$root/tests/packages.sh"
 
-# The sample of boot phases up to its breach: all six marks are reached, and it conforms.
-boot=$work/boot.rec
-head -c $((2783 * 16)) "$root/samples/phases.rec" >"$boot"
+# The sample in which all six marks are reached, and which conforms to its end.
+boot=$root/samples/complete.rec
 marks='10/1 2/1 5/7 11/2 10/1 15/15'
 page() {
     "$root/spur" report "$boot" '10/1=<script>alert(1)</script>' "2/1=\"&'" 5/7=memory 11/2 '10/1=a second time' '15/15=<b>ready</b>'
 }
 
 browse() { # WORDS..
-    chromium --headless --no-sandbox --disable-gpu --user-data-dir="$work/profile" "$@" "file://$work/page.html" 2>"$work/said"
+    timeout 120 chromium --headless --no-sandbox --disable-gpu --disable-dev-shm-usage --user-data-dir="$work/profile" "$@" "file://$work/page.html" 2>"$work/said"
 }
 
 # Whether a line of the text has these numbers behind one another, other words between.
