@@ -60,9 +60,9 @@ page_foot() {
     cat <<END
 </main>
 <footer>
-<p>Every figure on this page was printed by a program that is proved from the bytes it reads to the bytes it prints (spuraccounts, spurphases,
-spurseconds), and is shown as it was printed; the size of the file is the system's. A bus cycle is 100 ns, so seconds with seven digits
-behind the point are exact: nothing is rounded.</p>
+<p>The counts, cycles and seconds on this page were printed by proved programs and are shown as they were printed: spuraccounts and spurphases are
+proved from the bytes of the recording to the lines that they print, and spurseconds makes seconds of cycles. The phases&#39; numbers, the hold limit
+and the size of the file are not theirs. A bus cycle is 100 ns, so seconds with seven digits behind the point are exact: nothing is rounded.</p>
 </footer>
 </body>
 </html>

@@ -48,31 +48,35 @@ figures() { # WHAT FILE NUMBER..
     count "$what" $? "no line has $* behind one another"
 }
 
+# The line of spurseconds for a number of cycles.
+seconds_of() { # CYCLES
+    # shellcheck disable=SC2086
+    $runner "$bin/spurseconds" "$1" </dev/null
+}
+
 in_text() {
     # shellcheck disable=SC2086
-    {
-        $runner "$bin/spurphases" 16 $marks <"$boot" >"$work/phases"
-        phases=$(awk '$1 == "mark" { print $NF }' "$work/phases")
-        total=$(awk '$1 == "mark" { span = $4 } END { print span }' "$work/phases")
-        # shellcheck disable=SC2046
-        set -- $($runner "$bin/spurseconds" $phases "$total")
-    }
-    for phase in $phases $total; do
-        figures "a phase of $phase cycles and $1 s" "$work/page.txt" "$phase" "$1"
-        shift
-    done
+    $runner "$bin/spurphases" 16 $marks <"$boot" >"$work/phases"
+    awk '$1 == "mark" { print $NF, $4 }' "$work/phases" >"$work/marks"
+    while read -r cycles reached; do
+        figures "a phase of $cycles cycles, up to $reached" "$work/page.txt" "$cycles" "$(seconds_of "$cycles")" "$reached" "$(seconds_of "$reached")"
+        phases="$phases $cycles"
+    done <"$work/marks"
+    total=$(sed -n '$s/.* //p' "$work/marks")
+    figures 'the total of the phases' "$work/page.txt" "$total" "$(seconds_of "$total")"
     # shellcheck disable=SC2086
     $runner "$bin/spuraccounts" 16 <"$boot" >"$work/accounts"
     while read -r word slot _ starts _ busy; do
         case $word in
-        slot) figures "slot $slot" "$work/page.txt" "$slot" "$starts" "$busy" ;;
+        slot) figures "slot $slot" "$work/page.txt" "$slot" "$starts" "$busy" "$(seconds_of "$busy")" ;;
         esac
     done <"$work/accounts"
     # shellcheck disable=SC2046
     set -- $(head -n 1 "$work/accounts")
-    for pair in "$1 $2" "$3 $4" "$5 $6" "$7 $8"; do
-        figures "the total of $pair" "$work/page.txt" "${pair#* }"
-    done
+    figures 'the totals' "$work/page.txt" "$2" "$4" "$(seconds_of "$4")" "$6" "$8" "${10}"
+    # on paper the last total stands on a line of its own, above its name
+    open=$(awk '/transfers still open/ { print last } { last = $NF }' "$work/page.txt")
+    count 'whether a transfer is open' "$([ "$open" = "${12}" ] && echo 0 || echo 1)" "'$open', and not ${12}"
     # a name may go over two lines
     pdftotext "$work/page.pdf" - | tr -d ' \n\f' >"$work/page.run"
     for name in '<script>alert(1)</script>' "\"&'" memory 'asecondtime' '<b>ready</b>'; do
