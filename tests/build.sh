@@ -24,11 +24,11 @@ link modeljudge $model
 link outside accountsmet $model $makers $running
 link faults bigstreams boundary phasefaults accountfaults marks $model $makers $running
 link limits $model $makers $running
-link golden goldenrules goldenbreach goldenphases goldenaccounts goldenentries $model $makers $running
+link golden goldenrules goldenbreach goldenphases goldenaccounts goldenentries goldenlanes $model $makers $running
 link modelphases marks $model
 link modelaccounts $model
 link phases phasewords $marks $model $makers $running
-link selftest lookback selfmarks marksback selfaccounts accountsback accountsmet $marks $model $makers
+link selftest lookback selfmarks selflanes marksback selfaccounts accountsback accountsmet $marks $model $makers
 link desk $desk $model $makers $running
 link modeldesk deskfigures deskrows deskcause run $model make
 link vcdsamples

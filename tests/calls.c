@@ -114,13 +114,15 @@ static void call_record(const uint8_t *c, uint8_t *a)
 
 static void call_code(const uint8_t *c, uint8_t *a)
 {
+    struct decoded start;
     struct operation op;
     uint32_t ad;
     if (c[0] == 3) {
-        a[0] = (uint8_t)code_decode(&op, c[1] != 0, c[2] != 0, (uint32_t)number(c + 3, 4));
-        a[1] = op.write;
-        a[2] = op.unit;
-        set_number(a + 3, 4, op.address);
+        a[0] = (uint8_t)code_decode(&start, c[1] != 0, c[2] != 0, (uint32_t)number(c + 3, 4));
+        a[1] = start.op.write;
+        a[2] = start.op.unit;
+        set_number(a + 3, 4, start.op.address);
+        a[7] = start.lanes;
     } else if (c[0] == 4) {
         op.write = c[1] != 0;
         op.unit = c[2] % UNITS;

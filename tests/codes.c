@@ -1,4 +1,5 @@
-/* START codes, ACK status and parity (01, "START codes"; 001, tables 2.2, 2.3, 2.4). */
+/* START codes, ACK status and parity (01, "START codes"; 001, tables 2.2, 2.3, 2.4), and the byte lanes
+   (02, wish 4). */
 #include "spur.h"
 
 enum { ANY_BLOCK = UNITS };
@@ -40,7 +41,7 @@ static int row(int tm1, int tm0, unsigned ad1ad0)
 }
 
 /* Refusal 4: a block whose AD2 to AD5 are all active has no meaning (001, table 2.3). */
-int code_decode(struct operation *op, int tm1, int tm0, uint32_t ad)
+static int operation_of(struct operation *op, int tm1, int tm0, uint32_t ad)
 {
     const struct mode *m = &modes[row(tm1, tm0, ad & 3)];
     *op = (struct operation){0, 0, 0};
@@ -62,6 +63,27 @@ int code_decode(struct operation *op, int tm1, int tm0, uint32_t ad)
     op->unit = (uint8_t)unit;
     op->address = ad & ~(code_size(unit) - 1);
     return 0;
+}
+
+/* "One for a byte, two for a halfword, four for a word and for each word of a block. For a byte, lane
+   k is address modulo 4; halfword 1 is lanes 2 and 3" (02, wish 4), so halfword 0 is 0 and 1. The
+   address has the unit's low bits zero, so a halfword's is 0 or 2 modulo 4. */
+static uint8_t lanes_of(const struct operation *op)
+{
+    unsigned offset = op->address % LANES;
+    switch (op->unit) {
+    case BYTE: return (uint8_t)(1 << offset);
+    case HALF: return offset == 2 ? 0xC : 0x3;
+    default: return 0xF;
+    }
+}
+
+/* A refusal gives 0 for every other value, the lanes too. */
+int code_decode(struct decoded *d, int tm1, int tm0, uint32_t ad)
+{
+    int no = operation_of(&d->op, tm1, tm0, ad);
+    d->lanes = no == 0 ? lanes_of(&d->op) : 0;
+    return no;
 }
 
 /* Refusal 4: an address not aligned to its unit. */

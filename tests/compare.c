@@ -26,6 +26,8 @@ static void cover(const uint8_t *c, const uint8_t *a)
     }
     if (c[0] == 9 && a[0] == 0)
         covered.notes[a[6]]++;
+    if (c[0] == 3)
+        covered.lanes[a[7]]++;
 }
 
 static void say_calls(const struct subject_program *p, const struct buffer *in, size_t at,

@@ -29,6 +29,7 @@ struct coverage {
     unsigned long calls, skipped, by_op[256], refusals[256], rules[14], notes[4];
     unsigned long kinds[KINDS], far; /* of rule 8; breaches at a span of 2^32 or more */
     unsigned long op_refusal[OPERATIONS][9];
+    unsigned long lanes[1 << LANES]; /* of the decoder's answers (02, wish 4), refused ones too */
 };
 extern struct coverage covered;
 #endif

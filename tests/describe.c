@@ -109,6 +109,16 @@ void say_call(FILE *to, const uint8_t *c)
     }
 }
 
+/* Lane 3 first: halfword 1 is 1100. Bits above the four lanes would be wrong, and are told. */
+static void say_lanes(FILE *to, uint8_t lanes)
+{
+    fprintf(to, " lanes ");
+    for (int k = LANES; k-- > 0;)
+        fputc('0' + (lanes >> k & 1), to);
+    if (lanes >> LANES != 0)
+        fprintf(to, " (%02X)", lanes);
+}
+
 void say_answer(FILE *to, const uint8_t *c, const uint8_t *a)
 {
     static const char *const notes[] = {"none", "short", "extra", "stray"};
@@ -122,7 +132,10 @@ void say_answer(FILE *to, const uint8_t *c, const uint8_t *a)
     switch (c[0]) {
     case 2: fprintf(to, "stamp %08llX ARB %d AD %08llX VAD %llX", number(a + 4, 4), a[10],
                     number(a + 17, 4), number(a + 25, 8)); break;
-    case 3: fprintf(to, "write %d unit %d at %08llX", a[1], a[2], number(a + 3, 4)); break;
+    case 3:
+        fprintf(to, "write %d unit %d at %08llX", a[1], a[2], number(a + 3, 4));
+        say_lanes(to, a[7]);
+        break;
     case 4: fprintf(to, "TM1 %d TM0 %d AD %08llX", a[1], a[2], number(a + 3, 4)); break;
     case 5: fprintf(to, "status %d", a[1]); break;
     case 6: fprintf(to, "SP %d", a[1]); break;

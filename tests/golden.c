@@ -1,6 +1,6 @@
 /* Golden cases: 01's checked examples with answers written down by hand, not by the model, and
    small recordings for each rule with a near twin that conforms, for what a breach tells, for boot
-   reports and for accounts.
+   reports, for accounts and for byte lanes.
 
    golden [--judge COMMAND] [--calls COMMAND] [--phases COMMAND] [--accounts COMMAND] */
 #define _DEFAULT_SOURCE 1
@@ -74,9 +74,10 @@ static void pack_and_codes(void)
         int no;
         uint8_t unit;
         uint32_t at;
+        uint8_t lanes; /* 02, wish 4: all for a block, none for no meaning, 2 and 3 for halfword 1 */
     } codes[] = {
-        {"P2 0000100E", 0, 0, 0x0000100E, 0, 5, 0x00001000}, {"P2 1E", 0, 0, 0x1E, 0, 6, 0},
-        {"P2 3E", 0, 0, 0x3E, 4, 0, 0}, {"P3", 1, 0, 0x00002003, 0, 1, 0x00002002},
+        {"P2 0000100E", 0, 0, 0x0000100E, 0, 5, 0x00001000, 0xF}, {"P2 1E", 0, 0, 0x1E, 0, 6, 0, 0xF},
+        {"P2 3E", 0, 0, 0x3E, 4, 0, 0, 0x0}, {"P3", 1, 0, 0x00002003, 0, 1, 0x00002002, 0xC},
     };
     for (size_t i = 0; i < 4; i++) {
         s = call(codes[i].name, 3, codes[i].no);
@@ -86,6 +87,7 @@ static void pack_and_codes(void)
         expect(s, 1, 1, codes[i].no ? 0 : codes[i].tm1);
         expect(s, 2, 1, codes[i].unit);
         expect(s, 3, 4, codes[i].at);
+        expect(s, 7, 1, codes[i].lanes);
         if (codes[i].no)
             continue;
         s = call(codes[i].name, 4, 0); /* and back */
@@ -239,6 +241,7 @@ static void through_calls(const char *command)
     cache();
     golden_breach_calls();
     golden_account_calls();
+    golden_lane_calls();
     for (size_t i = 0; i < count; i++)
         buffer_add(&in, steps[i].call, CALL);
     run_bytes(command, in.bytes, in.len, feed, 60, &r);

@@ -37,4 +37,5 @@ void golden_breach_calls(void);
 void golden_phases(const char *program);
 void golden_accounts(const char *program);
 void golden_account_calls(void);
+void golden_lane_calls(void);
 #endif

@@ -93,7 +93,7 @@ static int miscounted(const struct judge *j, const struct record *r)
 uint32_t judge_broken(const struct judge *j, const struct record *r, unsigned spare)
 {
     struct view v = look(j, r);
-    struct operation op;
+    struct decoded start;
     uint32_t broken = 0;
     if (spare != 0)
         broken |= 1u << 1;
@@ -109,7 +109,7 @@ uint32_t judge_broken(const struct judge *j, const struct record *r, unsigned sp
         broken |= 1u << 5;
     if (r->start && r->ack && !(r->tm1 && r->tm0))
         broken |= 1u << 6;
-    if (r->start && !r->ack && code_decode(&op, r->tm1, r->tm0, r->ad) != 0)
+    if (r->start && !r->ack && code_decode(&start, r->tm1, r->tm0, r->ad) != 0)
         broken |= 1u << 7;
     if (too_early(j, &v) != 0)
         broken |= 1u << 8;
@@ -161,15 +161,15 @@ static void take_wave(struct judge *j, const struct record *r, const struct view
 static void take_transfer(struct judge *j, struct tally *t, const struct record *r,
                           const struct view *v)
 {
-    struct operation op;
+    struct decoded start;
     t->starts += r->start;
     t->acks += r->ack;
     if (r->start && !r->ack) {
-        code_decode(&op, r->tm1, r->tm0, r->ad);
+        code_decode(&start, r->tm1, r->tm0, r->ad);
         j->open = 1;
         j->age = 0;
         j->busy = 1;
-        j->words = (uint8_t)code_words(op.unit);
+        j->words = (uint8_t)code_words(start.op.unit);
         j->strobes = 0;
     } else if (r->ack && !r->start) {
         j->open = j->words = j->strobes = 0;

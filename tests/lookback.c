@@ -117,12 +117,12 @@ static int rule_11(const struct cycles *c, long n, unsigned limit)
 static int rule_13(const struct cycles *c, long n, long opened)
 {
     const struct record *r = &c->at[n];
-    struct operation op;
+    struct decoded start;
     int strobes = 0, words;
     if (opened < 0 || r->start)
         return 0;
-    code_decode(&op, c->at[opened].tm1, c->at[opened].tm0, c->at[opened].ad);
-    words = code_words(op.unit);
+    code_decode(&start, c->at[opened].tm1, c->at[opened].tm0, c->at[opened].ad);
+    words = code_words(start.op.unit);
     for (long k = opened + 1; k < n; k++)
         strobes += c->at[k].tm0;
     if (words == 1)
@@ -137,7 +137,7 @@ static int rule_13(const struct cycles *c, long n, long opened)
 static int lowest(const struct cycles *c, long n, unsigned limit)
 {
     const struct record *r = &c->at[n];
-    struct operation op;
+    struct decoded start;
     long opened = opener(c, n), last;
     if (r->reset)
         return 0;
@@ -149,7 +149,7 @@ static int lowest(const struct cycles *c, long n, unsigned limit)
         return 5;
     if (r->start && r->ack && !(r->tm1 && r->tm0))
         return 6;
-    if (r->start && !r->ack && code_decode(&op, r->tm1, r->tm0, r->ad) != 0)
+    if (r->start && !r->ack && code_decode(&start, r->tm1, r->tm0, r->ad) != 0)
         return 7;
     if (kind_of(c, n) != 0)
         return 8;

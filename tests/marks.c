@@ -28,10 +28,11 @@ int report_complete(const struct report *p)
    START, and an attention cycle is no transfer. */
 static int is_write_of(const struct mark *mark, const struct record *r)
 {
-    struct operation op;
-    if (r->reset || !r->start || r->ack)
+    struct decoded start;
+    if (r->reset || !r->start || r->ack || code_decode(&start, r->tm1, r->tm0, r->ad) != 0)
         return 0;
-    if (code_decode(&op, r->tm1, r->tm0, r->ad) != 0 || !op.write || op.unit != WORD)
+    struct operation op = start.op;
+    if (!op.write || op.unit != WORD)
         return 0;
     return op.address >> 20 == (0xF00 | mark->slot << 4) && (op.address >> 2 & 15) == mark->number;
 }

@@ -303,6 +303,28 @@ static void recordings_met(void)
     met("recordings", kinds, wrapped < far ? wrapped : far);
 }
 
+/* A byte has one lane, a halfword 0 and 1 or 2 and 3, all else four; none is a code with no meaning (02,
+   wish 4). With a fair share each is to be met. */
+static void lanes_met(void)
+{
+    static const int sets[] = {0x0, 0x1, 0x2, 0x4, 0x8, 0x3, 0xC, 0xF};
+    unsigned long least = covered.by_op[3];
+    printf("lanes decoded:");
+    for (size_t i = 0; i < sizeof sets / sizeof sets[0]; i++) {
+        unsigned long n = covered.lanes[sets[i]];
+        printf(" ");
+        for (int k = LANES; k-- > 0;)
+            printf("%d", sets[i] >> k & 1);
+        printf(":%lu", n);
+        least = n < least ? n : least;
+    }
+    printf("\n");
+    if (options.count < ENOUGH || least > 0)
+        return;
+    printf("FAILED: a set of byte lanes was never met\n");
+    failed++;
+}
+
 static void calls_met(void)
 {
     printf("calls %lu, of which not settled by the paper %lu\n", covered.calls + covered.skipped,
@@ -324,6 +346,7 @@ static void calls_met(void)
     printf("; at a span of 2^32 or more %lu\n", covered.far);
     printf("notes: none %lu short %lu extra %lu stray %lu; no operation: %lu\n", covered.notes[0],
            covered.notes[1], covered.notes[2], covered.notes[3], covered.refusals[255]);
+    lanes_met();
     met("calls", covered.kinds, covered.far);
 }
 

@@ -1,7 +1,7 @@
 /* The model against itself: its judge against the rules said of the recording alone, on sound,
    wild and damaged recordings, none of which breaks 8b and 8c at once; the stepper's traffic against
-   the judge (the maker stops the program where that breaks a rule); its accounts and its boot report
-   against a second way.
+   the judge (the maker stops the program where that breaks a rule); its accounts, its boot report and
+   its byte lanes against a second way.
 
    selftest [COUNT [SEED]] */
 #include <stdio.h>
@@ -9,6 +9,7 @@
 #include "lookback.h"
 #include "make.h"
 #include "selfaccounts.h"
+#include "selflanes.h"
 #include "selfmarks.h"
 
 enum { ENOUGH = 50 }; /* a count at which everything is to be met */
@@ -106,6 +107,7 @@ int main(int argc, char **argv)
     summary(count);
     compared += selfaccounts(count, &g, &differ);
     compared += selfmarks(count, &g, &differ);
+    compared += selflanes(&differ);
     printf("selftest: %lu passed, %lu failed\n", compared - differ, differ);
     return differ > 0 || compared == 0;
 }

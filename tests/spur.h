@@ -29,7 +29,15 @@ struct operation {
     uint8_t write, unit;
     uint32_t address;
 };
-int code_decode(struct operation *op, int tm1, int tm0, uint32_t ad);
+/* A START decoded: its operation and, beside it, the byte lanes of the enclosing word that carry the
+   unit, bit k for lane k (document 02, wish 4). An operation has its code without them, so the encoder
+   takes none. */
+enum { LANES = 4 };
+struct decoded {
+    struct operation op;
+    uint8_t lanes; /* 0 for a code with no meaning */
+};
+int code_decode(struct decoded *d, int tm1, int tm0, uint32_t ad);
 int code_encode(const struct operation *op, uint8_t *tm1, uint8_t *tm0, uint32_t *ad);
 int code_words(int unit);
 uint32_t code_size(int unit); /* bytes */

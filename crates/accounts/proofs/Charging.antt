@@ -10,6 +10,7 @@ use lib.ListN.{length, take, drop, getD, set}
 use lib.Seq.{take-take, drop-drop}
 use Rattle.basics.specs.Lines.{one}
 use Rattle.basics.proofs.Bools.{choice, cond-true, cond-false}
+use Rattle.basics.proofs.Bits.{one-most}
 use Rattle.record.specs.declared.Record.{Record}
 use Rattle.record.specs.Layout.{recordIn}
 use Rattle.entries.specs.declared.Entry.{Entry}
@@ -42,10 +43,6 @@ shown-at bytes i =
 slot-most : (w : Watch) (s : Shown) → w .slot ≤ 15 → s .arb ≤ 15 → slotBy w s ≤ 15
 unfolding slotBy
 slot-most w s a b = choice (λ (k : ℕ). k ≤ 15) (s .start && not (s .reset) && (eqb (difference (w .stamp) (s .stamp)) 1 && w .rqst)) (λ _. b) (λ _. a)
-
-one-most : (b : Bool) → one b ≤ 1
-one-most true = omega arith
-one-most false = omega arith
 
 busy-less : (w : Watch) (s : Shown) → busyBy w s < 2 ^ 32
 unfolding busyBy

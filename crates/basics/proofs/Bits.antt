@@ -6,7 +6,11 @@ use native.Mathlib.Nat.{pow-succ', div-div-eq-div-mul}
 use native.Mathlib.Omega.{arith}
 use lib.Dec.{eqb}
 use borrow.Author.Tests.{eq-eqb, ne-eqb, eqb-true, eqb-false}
-use Rattle.basics.specs.Lines.{bit, active}
+use Rattle.basics.specs.Lines.{one, bit, active}
+
+pub one-most : (t : Bool) → one t ≤ 1
+one-most true = omega arith
+one-most false = omega arith
 
 pub bit-zero : (w : ℕ) → bit 0 w ≡ w % 2
 unfolding bit

@@ -19,14 +19,16 @@ use Rattle.codes.specs.declared.Operation.{Operation}
 use Rattle.codes.specs.declared.Code.{Code}
 use Rattle.codes.specs.declared.Status.{Status}
 use Rattle.codes.specs.declared.Status.the-variants.{Success, Error, Timeout, Again}
+use Rattle.codes.specs.declared.Meaning.{Meaning}
 use Rattle.codes.specs.Units.{bytesIn, byteUnit, markOf}
+use Rattle.codes.specs.Lanes.{withLanes}
 use Rattle.codes.specs.Start.{unitOf, blockOf, meaning, decodeOf, encodeOf}
 use Rattle.codes.specs.Ack.{statusOf, statusLinesOf}
 use Rattle.codes.proofs.Laws.{line-on, line-off, is-two, is-four, is-eight, is-sixteen, codeOf, aligned, unaligned, mark-fits}
 
--- the lines of a START mean an operation
+-- the lines of a START mean an operation, and beside it its lanes
 abbrev pub Means : Code → Operation → Type 0
-Means code op = decodeOf (code .tm1) (code .tm0) (code .ad) ≡ accepted op
+Means code op = decodeOf (code .tm1) (code .tm0) (code .ad) ≡ accepted (withLanes op)
 
 -- "The address has the unit's low bits zero"
 abbrev pub Aligned : Operation → Type 0
@@ -69,7 +71,7 @@ pub code-means : (op : Operation) → Aligned op → Means (codeOf op) op
 unfolding decodeOf
 code-means op h =
     ap (meaning (op .write) (op .address + markOf (op .unit))) (unit-back (op .unit) (op .address) h)
-    ∙ ap (λ (a : ℕ). accepted (record { write = op .write; unit = op .unit; address = a })) (address-back (op .unit) (op .address) h)
+    ∙ ap (λ (a : ℕ). accepted (withLanes (record { write = op .write; unit = op .unit; address = a }))) (address-back (op .unit) (op .address) h)
 
 -- an accepted answer is no refusal, and says its value
 pub same-value : {A : Type 0} {v w : A} → accepted v ≡ accepted w → v ≡ w
@@ -145,10 +147,10 @@ cleared Four ad e = omega arith
 cleared Eight ad e = omega arith
 cleared Sixteen ad e = omega arith
 
-undone : (code : Code) (s : Size) → Marked (code .tm0) (code .ad) s → (op : Operation) → meaning (code .tm1) (code .ad) s ≡ accepted op → encodeOf op ≡ accepted code
+undone : (code : Code) (s : Size) → Marked (code .tm0) (code .ad) s → (op : Operation) → meaning (code .tm1) (code .ad) s ≡ accepted (withLanes op) → encodeOf op ≡ accepted code
 undone code (Is u) m op e =
     let z = cleared u (code .ad) (m .1) in
-    ap encodeOf (sym (same-value e)) ∙ aligned _ (z .0) ∙ rw (z .1, m .0)
+    ap encodeOf (sym (ap (λ (m : Meaning). m .operation) (same-value e))) ∙ aligned _ (z .0) ∙ rw (z .1, m .0)
 undone code NoMeaning m op e = absurd (never e)
 
 -- encoding undoes decoding

@@ -1,5 +1,5 @@
 -- Laws of START codes: a line by its digit of AD, a block's length by its lines, and what the encoder adds. Assumes nothing.
-use Prim.Native.Nat.{ℕ, _+_, _%_, _/_, _<_, _^_}
+use Prim.Native.Nat.{ℕ, zero, suc, _+_, _%_, _/_, _<_, _^_}
 use mathlib.Core.Path.{_≡_}
 use mathlib.Core.Bool.{true, false}
 use native.Mathlib.Omega.{arith}
@@ -14,6 +14,14 @@ use Rattle.codes.specs.declared.Operation.{Operation}
 use Rattle.codes.specs.declared.Code.{Code}
 use Rattle.codes.specs.Units.{bytesIn, byteUnit, markOf}
 use Rattle.codes.specs.Start.{blockOf, encodeOf, noCode}
+
+-- what holds at 0, 1, 2 and 3 holds below 4
+pub below4 : (P : ℕ → Type 0) → P 0 → P 1 → P 2 → P 3 → (q : ℕ) → q < 4 → P q
+below4 P a b c d zero h = a
+below4 P a b c d (suc zero) h = b
+below4 P a b c d (suc (suc zero)) h = c
+below4 P a b c d (suc (suc (suc zero))) h = d
+below4 P a b c d (suc (suc (suc (suc q)))) h = absurd (omega arith)
 
 -- line k by the number's digit: the form in which a remainder gives it
 pub line-on : (k ad : ℕ) → ad / 2 ^ k % 2 ≡ 1 → active k ad ≡ true

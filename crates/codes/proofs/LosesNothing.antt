@@ -3,7 +3,7 @@ use mathlib.Core.Path.{_≡_, refl, sym, _∙_, ap}
 use mathlib.Core.Bool.{cond}
 use lib.Dec.{eqb}
 use Rattle.basics.specs.Answers.{Answer}
-use Rattle.codes.specs.declared.Operation.{Operation}
+use Rattle.codes.specs.declared.Meaning.{Meaning}
 use Rattle.codes.specs.declared.Code.{Code}
 use Rattle.codes.specs.declared.Decoded.{Decoded}
 use Rattle.codes.specs.declared.Decoded.the-variants.{Means, NoMeaning}
@@ -11,11 +11,11 @@ use Rattle.codes.specs.declared.Encoded.{Encoded}
 use Rattle.codes.specs.declared.Encoded.the-variants.{By, Unaligned}
 use Rattle.codes.specs.Start.{decodedAnswer, encodedAnswer}
 
-abbrev pub decodedFrom : Answer Operation → Decoded
+abbrev pub decodedFrom : Answer Meaning → Decoded
 decodedFrom a = cond (eqb (a .number) 0) (Means (a .value)) NoMeaning
 
 pub decoded-again : (r : Decoded) → decodedFrom (decodedAnswer r) ≡ r
-decoded-again (Means op) = refl
+decoded-again (Means m) = refl
 decoded-again NoMeaning = refl
 
 -- so the decoder's contract fixes its answer

@@ -1,6 +1,6 @@
 -- The sixteen transfer modes: each row of the table says what the lines of its START say. Assumes nothing.
-use Prim.Native.Nat.{ℕ, zero, suc, _+_, _-_, _*_, _%_, _/_, _<_}
-use mathlib.Core.Path.{_≡_, refl, sym, _∙_, ap}
+use Prim.Native.Nat.{ℕ, zero, suc, _+_, _-_, _*_, _%_, _/_, _^_, _<_}
+use mathlib.Core.Path.{_≡_, refl, sym, _∙_, ap, subst}
 use mathlib.Core.Bool.{Bool, true, false, not}
 use mathlib.Core.List.{List, [], _∷_}
 use native.Mathlib.Omega.{arith}
@@ -14,9 +14,12 @@ use Rattle.codes.specs.declared.Unit.{Unit}
 use Rattle.codes.specs.declared.Unit.the-variants.{Byte, Halfword, Word}
 use Rattle.codes.specs.declared.Kind as kind
 use Rattle.codes.specs.declared.Mode.{Mode}
-use Rattle.codes.specs.declared.Operation.{Operation}
+use Rattle.codes.specs.declared.Meaning.{Meaning}
+use Rattle.codes.specs.Lanes.{lanesOf, withLanes}
 use Rattle.codes.specs.Start.{unitOf, decodeOf}
-use Rattle.codes.specs.Modes.{offsetOf, modeOf, modeAt, rowOf, rowSays, saidOf}
+use Rattle.codes.proofs.Laws.{below4}
+use Rattle.codes.proofs.LaneLaws.{lanes-low}
+use Rattle.codes.specs.Modes.{kindOf, offsetOf, modeOf, modeAt, rowOf, rowSays, saidOf}
 
 -- a table is the list of a rule's values at i, i + 1, .., n of them: the one test of a whole table
 abbrev pub values : {A : Type 0} → (ℕ → A) → ℕ → ℕ → List A
@@ -31,14 +34,6 @@ from f (suc n) i (suc k) d h = from f n (suc i) k d (le-of-suc-le-suc h) ∙ rw 
 -- and the rule at each of its rows
 pub row-at : {A : Type 0} (f : ℕ → A) (n k : ℕ) (d : A) → k < n → getD (values f 0 n) k d ≡ f k
 row-at f n k d h = from f n 0 k d h ∙ rw zero-add
-
--- what holds at 0, 1, 2 and 3 holds below 4
-below4 : (P : ℕ → Type 0) → P 0 → P 1 → P 2 → P 3 → (q : ℕ) → q < 4 → P q
-below4 P a b c d zero h = a
-below4 P a b c d (suc zero) h = b
-below4 P a b c d (suc (suc zero)) h = c
-below4 P a b c d (suc (suc (suc zero))) h = d
-below4 P a b c d (suc (suc (suc (suc q)))) h = absurd (omega arith)
 
 -- AD1 and AD0 are the remainder by 4
 low-0 : (ad : ℕ) → active 0 ad ≡ active 0 (ad % 4)
@@ -62,7 +57,7 @@ pub row-mode : (a b : Bool) (ad : ℕ) → modeAt (rowOf a b ad) ≡ modeOf a b 
 row-mode a b ad = rw (low-1 ad, low-0 ad) (lines-row a b (ad % 4) (omega arith))
 
 -- an offset stays within the word
-pub offset-less : (b x y : Bool) → offsetOf b x y < 4
+offset-less : (b x y : Bool) → offsetOf b x y < 4
 offset-less true true true = omega arith
 offset-less true true false = omega arith
 offset-less true false true = omega arith
@@ -71,6 +66,9 @@ offset-less false true true = omega arith
 offset-less false true false = omega arith
 offset-less false false true = omega arith
 offset-less false false false = omega arith
+
+pub row-offset : (tm1 tm0 : Bool) (ad : ℕ) (m : Mode) → m ≡ modeOf tm1 tm0 (active 1 ad) (active 0 ad) → m .2 < 4
+row-offset tm1 tm0 ad m e = subst (λ (m : Mode). m .2 < 4) (sym e) (offset-less tm0 (active 1 ad) (active 0 ad))
 
 -- AD modulo 4 from its two lines
 low-two : (ad : ℕ) → ad % 4 ≡ bit 1 ad * 2 + bit 0 ad
@@ -83,8 +81,8 @@ low-lines true false ad e f = omega (arith, low-two ad, active-bit 1 ad e, inact
 low-lines false true ad e f = omega (arith, low-two ad, inactive-bit 1 ad e, active-bit 0 ad f)
 low-lines false false ad e f = omega (arith, low-two ad, inactive-bit 1 ad e, inactive-bit 0 ad f)
 
-at-address : (w : Bool) (u : Unit) {a b : ℕ} → a ≡ b → _≡_ {A = Answer Operation} (accepted (record { write = w; unit = u; address = a })) (accepted (record { write = w; unit = u; address = b }))
-at-address w u e = ap (λ (a : ℕ). accepted (record { write = w; unit = u; address = a })) e
+at-address : (w : Bool) (u : Unit) {a b : ℕ} → a ≡ b → _≡_ {A = Answer Meaning} (accepted (withLanes (record { write = w; unit = u; address = a }))) (accepted (withLanes (record { write = w; unit = u; address = b })))
+at-address w u e = ap (λ (a : ℕ). accepted (withLanes (record { write = w; unit = u; address = a }))) e
 
 -- what the lines of a START say is what their row says
 lines-say : (tm1 tm0 ad1 ad0 : Bool) (ad : ℕ) → active 1 ad ≡ ad1 → active 0 ad ≡ ad0 → rowSays (modeOf tm1 tm0 ad1 ad0) ad ≡ decodeOf tm1 tm0 ad
@@ -101,6 +99,39 @@ arm-says tm1 tm0 ad m k e t =
     ap (saidOf m ad) (sym t)
     ∙ ap (λ (m : Mode). rowSays m ad) e
     ∙ lines-say tm1 tm0 (active 1 ad) (active 0 ad) ad refl refl
+
+-- the lanes that the arms give: one, two or four of them from the row's offset on
+abbrev Fits : kind.Kind → ℕ → Type 0
+Fits kind.Kind.Byte offset = (1 * 2 ^ offset) % 256 ≡ lanesOf Byte offset
+Fits kind.Kind.Halfword offset = (3 * 2 ^ offset) % 256 ≡ lanesOf Halfword offset
+Fits kind.Kind.Word offset = 15 ≡ lanesOf Word offset
+Fits kind.Kind.Block offset = offset ≡ offset
+
+lanes-fit : (b x y : Bool) → Fits (kindOf b x y) (offsetOf b x y)
+unfolding lanesOf
+lanes-fit true true true = refl
+lanes-fit true true false = refl
+lanes-fit true false true = refl
+lanes-fit true false false = refl
+lanes-fit false true true = refl
+lanes-fit false true false = refl
+lanes-fit false false true = refl
+lanes-fit false false false = refl
+
+arm-fits : (tm1 tm0 : Bool) (ad : ℕ) (m : Mode) (k : kind.Kind) → m ≡ modeOf tm1 tm0 (active 1 ad) (active 0 ad) → m .1 ≡ k → Fits k (m .2)
+arm-fits tm1 tm0 ad m k e t =
+    subst (λ (k : kind.Kind). Fits k (m .2)) t (subst (λ (m : Mode). Fits (m .1) (m .2)) (sym e) (lanes-fit tm0 (active 1 ad) (active 0 ad)))
+
+-- so the arm of a byte, halfword or word gives what the lines say
+pub arm-means : (u : Unit) (tm1 tm0 : Bool) (ad l : ℕ) (m : Mode) (k : kind.Kind) → m ≡ modeOf tm1 tm0 (active 1 ad) (active 0 ad) → m .1 ≡ k
+    → saidOf m ad k ≡ accepted (withLanes (record { write = m .0; unit = u; address = ad - ad % 4 + m .2 })) → (Fits k (m .2) → l ≡ lanesOf u (m .2))
+    → accepted (record { operation = record { write = m .0; unit = u; address = ad - ad % 4 + m .2 }; lanes = l }) ≡ decodeOf tm1 tm0 ad
+arm-means u tm1 tm0 ad l m k e t s f =
+    let o = row-offset tm1 tm0 ad m e in
+    ap (λ (l : ℕ). accepted (record { operation = record { write = m .0; unit = u; address = ad - ad % 4 + m .2 }; lanes = l }))
+    (f (arm-fits tm1 tm0 ad m k e t) ∙ lanes-low u (m .2) (ad - ad % 4 + m .2) (omega arith))
+    ∙ sym s
+    ∙ arm-says tm1 tm0 ad m k e t
 
 -- a line that is active where a bit of the row's number is not
 opposite : (i k ad : ℕ) → bit i ad + bit i k ≡ 1 → active i ad ≡ not (active i k)

@@ -9,9 +9,9 @@ use Rattle.basics.specs.Answers.{Answer, accepted, refused}
 use Rattle.codes.specs.declared.Unit.the-variants.{Byte, Halfword, Word, Two, Four, Eight, Sixteen}
 use Rattle.codes.specs.declared.Size.{Size}
 use Rattle.codes.specs.declared.Size.the-variants.{Is, NoMeaning}
-use Rattle.codes.specs.declared.Operation.{Operation}
+use Rattle.codes.specs.declared.Meaning.{Meaning}
 use Rattle.codes.specs.Units.{wordsIn}
-use Rattle.codes.specs.Start.{unitOf, meaning, decodeOf, noOperation}
+use Rattle.codes.specs.Start.{unitOf, meaning, decodeOf, nothingMeant}
 use Rattle.codes.specs.Owed.{wordsBy, wordsOf}
 
 -- what holds of the six counts holds of the words that any unit owes
@@ -35,25 +35,25 @@ owed-most =
     owed-counts (λ n. n ≤ 16) (omega arith) (omega arith) (omega arith) (omega arith) (omega arith) (omega arith)
 
 -- a code with a meaning owes the words of its unit
-pub owed-unit : (tm1 tm0 : Bool) (ad : ℕ) → decodeOf tm1 tm0 ad .number ≡ 0 → wordsOf tm0 ad ≡ wordsIn (decodeOf tm1 tm0 ad .value .unit)
+pub owed-unit : (tm1 tm0 : Bool) (ad : ℕ) → decodeOf tm1 tm0 ad .number ≡ 0 → wordsOf tm0 ad ≡ wordsIn (decodeOf tm1 tm0 ad .value .operation .unit)
 unfolding decodeOf wordsOf
 owed-unit tm1 tm0 ad = go (unitOf tm0 ad)
   where
-    go : (s : Size) → meaning tm1 ad s .number ≡ 0 → wordsBy s ≡ wordsIn (meaning tm1 ad s .value .unit)
+    go : (s : Size) → meaning tm1 ad s .number ≡ 0 → wordsBy s ≡ wordsIn (meaning tm1 ad s .value .operation .unit)
     go (Is u) e = refl
     go NoMeaning e = absurd (let z : _≡_ {A = ℕ} 4 0 = e in omega arith)
 
-pub owed-means : (tm1 tm0 : Bool) (ad : ℕ) (op : Operation) → decodeOf tm1 tm0 ad ≡ accepted op → wordsOf tm0 ad ≡ wordsIn (op .unit)
-owed-means tm1 tm0 ad op e =
-    owed-unit tm1 tm0 ad (ap (λ (a : Answer Operation). a .number) e) ∙ ap (λ (a : Answer Operation). wordsIn (a .value .unit)) e
+pub owed-means : (tm1 tm0 : Bool) (ad : ℕ) (m : Meaning) → decodeOf tm1 tm0 ad ≡ accepted m → wordsOf tm0 ad ≡ wordsIn (m .operation .unit)
+owed-means tm1 tm0 ad m e =
+    owed-unit tm1 tm0 ad (ap (λ (a : Answer Meaning). a .number) e) ∙ ap (λ (a : Answer Meaning). wordsIn (a .value .operation .unit)) e
 
 -- and one without owes none
-pub owed-none : (tm1 tm0 : Bool) (ad : ℕ) → decodeOf tm1 tm0 ad ≡ refused 4 noOperation → wordsOf tm0 ad ≡ 0
+pub owed-none : (tm1 tm0 : Bool) (ad : ℕ) → decodeOf tm1 tm0 ad ≡ refused 4 nothingMeant → wordsOf tm0 ad ≡ 0
 unfolding decodeOf wordsOf
 owed-none tm1 tm0 ad e = go (unitOf tm0 ad) e
   where
-    go : (s : Size) → meaning tm1 ad s ≡ refused 4 noOperation → wordsBy s ≡ 0
-    go (Is u) e = let n : _≡_ {A = ℕ} 0 4 = ap (λ (a : Answer Operation). a .number) e in absurd (omega arith)
+    go : (s : Size) → meaning tm1 ad s ≡ refused 4 nothingMeant → wordsBy s ≡ 0
+    go (Is u) e = let n : _≡_ {A = ℕ} 0 4 = ap (λ (a : Answer Meaning). a .number) e in absurd (omega arith)
     go NoMeaning e = refl
 
 -- the test whether words are owed is the test whether the code is accepted

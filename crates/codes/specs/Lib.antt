@@ -1,4 +1,5 @@
 pub mod Units
+pub mod Lanes
 pub mod Start
 pub mod Modes
 pub mod Owed

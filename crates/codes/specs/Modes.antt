@@ -6,7 +6,8 @@ use Rattle.basics.specs.Answers.{Answer, accepted}
 use Rattle.codes.specs.declared.Unit.the-variants.{Byte, Halfword, Word}
 use Rattle.codes.specs.declared.Kind as kind
 use Rattle.codes.specs.declared.Mode.{Mode}
-use Rattle.codes.specs.declared.Operation.{Operation}
+use Rattle.codes.specs.declared.Meaning.{Meaning}
+use Rattle.codes.specs.Lanes.{withLanes}
 use Rattle.codes.specs.Start.{blockOf, meaning}
 
 -- "TM0 active: a byte .. TM0 inactive, by AD1 AD0: 00 word; 01 halfword 0; 11 halfword 1; 10 block"
@@ -39,12 +40,12 @@ rowOf tm1 tm0 ad = 15 - (8 * one tm1 + 4 * one tm0 + ad % 4)
 
 -- what a row says of the lines AD, by what it names: a byte, halfword or word stands at the row's offset in the word at AD; of a block
 -- the length and the address are found in AD2 upwards (table 2.3)
-abbrev pub saidOf : Mode → ℕ → kind.Kind → Answer Operation
-saidOf m ad kind.Kind.Byte = accepted (record { write = m .0; unit = Byte; address = ad - ad % 4 + m .2 })
-saidOf m ad kind.Kind.Halfword = accepted (record { write = m .0; unit = Halfword; address = ad - ad % 4 + m .2 })
-saidOf m ad kind.Kind.Word = accepted (record { write = m .0; unit = Word; address = ad - ad % 4 + m .2 })
+abbrev pub saidOf : Mode → ℕ → kind.Kind → Answer Meaning
+saidOf m ad kind.Kind.Byte = accepted (withLanes (record { write = m .0; unit = Byte; address = ad - ad % 4 + m .2 }))
+saidOf m ad kind.Kind.Halfword = accepted (withLanes (record { write = m .0; unit = Halfword; address = ad - ad % 4 + m .2 }))
+saidOf m ad kind.Kind.Word = accepted (withLanes (record { write = m .0; unit = Word; address = ad - ad % 4 + m .2 }))
 saidOf m ad kind.Kind.Block = meaning (m .0) ad (blockOf ad)
 
 -- what a row says of the lines AD
-abbrev pub rowSays : Mode → ℕ → Answer Operation
+abbrev pub rowSays : Mode → ℕ → Answer Meaning
 rowSays m ad = saidOf m ad (m .1)

@@ -10,12 +10,14 @@ use Rattle.codes.specs.declared.Unit.the-variants.{Byte, Halfword, Word,
 use Rattle.codes.specs.declared.Size.{Size}
 use Rattle.codes.specs.declared.Size.the-variants.{Is, NoMeaning}
 use Rattle.codes.specs.declared.Operation.{Operation}
+use Rattle.codes.specs.declared.Meaning.{Meaning}
 use Rattle.codes.specs.declared.Code.{Code}
 use Rattle.codes.specs.declared.Decoded.{Decoded}
 use Rattle.codes.specs.declared.Decoded.the-variants.{Means, NoMeaning as Meaningless}
 use Rattle.codes.specs.declared.Encoded.{Encoded}
 use Rattle.codes.specs.declared.Encoded.the-variants.{By, Unaligned}
 use Rattle.codes.specs.Units.{bytesIn, byteUnit, markOf}
+use Rattle.codes.specs.Lanes.{withLanes}
 
 -- "AD2 inactive, 2 words; else AD3 inactive, 4; else AD4 inactive, 8; else AD5 inactive, 16; else no meaning"
 unfoldable pub blockOf : ℕ → Size
@@ -30,23 +32,23 @@ unitOf tm0 ad =
     cond tm0 (Is Byte)
     (cond (active 0 ad) (Is Halfword) (cond (active 1 ad) (blockOf ad) (Is Word)))
 
--- all zeros: what a refusal gives
-abbrev pub noOperation : Operation
-noOperation = record { write = false; unit = Byte; address = 0 }
+-- all zeros, and so no lane: what a refusal gives
+abbrev pub nothingMeant : Meaning
+nothingMeant = record { operation = record { write = false; unit = Byte; address = 0 }; lanes = 0 }
 
 -- "The address has the unit's low bits zero"; refusal 4 for a code with no meaning
-abbrev pub meaning : Bool → ℕ → Size → Answer Operation
-meaning tm1 ad (Is u) = accepted (record { write = tm1; unit = u; address = ad - ad % bytesIn u })
-meaning tm1 ad NoMeaning = refused 4 noOperation
+abbrev pub meaning : Bool → ℕ → Size → Answer Meaning
+meaning tm1 ad (Is u) = accepted (withLanes (record { write = tm1; unit = u; address = ad - ad % bytesIn u }))
+meaning tm1 ad NoMeaning = refused 4 nothingMeant
 
--- what the lines TM1, TM0 and AD of a START say
-unfoldable pub decodeOf : Bool → Bool → ℕ → Answer Operation
+-- what the lines TM1, TM0 and AD of a START say: an operation, and beside it its lanes
+unfoldable pub decodeOf : Bool → Bool → ℕ → Answer Meaning
 decodeOf tm1 tm0 ad = meaning tm1 ad (unitOf tm0 ad)
 
 -- document 01's number and values for each answer of the decoder
-abbrev pub decodedAnswer : Decoded → Answer Operation
-decodedAnswer (Means op) = accepted op
-decodedAnswer Meaningless = refused 4 noOperation
+abbrev pub decodedAnswer : Decoded → Answer Meaning
+decodedAnswer (Means m) = accepted m
+decodedAnswer Meaningless = refused 4 nothingMeant
 
 -- all zeros: what a refusal gives
 abbrev pub noCode : Code

@@ -41,9 +41,16 @@ pub enum Size {
     NoMeaning,
 }
 
+// What a START's lines mean: an operation, and beside it the byte lanes of the enclosing word that carry its unit (document 02, wish 4), lane k
+// in bit k. The encoder takes the operation alone, so that nobody can hand over lanes that don't fit it.
+pub struct Meaning {
+    pub operation: Operation,
+    pub lanes: u8,
+}
+
 // What a START's lines ask for, or refusal 4.
 pub enum Decoded {
-    Means(Operation),
+    Means(Meaning),
     NoMeaning,
 }
 
@@ -161,19 +168,26 @@ pub fn words(unit: Unit) -> u8
     row.1
 }
 
-// Every meaning that the decoder gives is made here, from the table's direction, a unit and its address.
-fn means(write: bool, unit: Unit, address: u32) -> Decoded
-    ensures { λ r. ⌜ decodedAnswer r ≡ accepted (record { write = write; unit = unit; address = address }) ⌝ }
+// Every meaning that the decoder gives is made here, from the table's direction, a unit, its address and its lanes.
+fn means(write: bool, unit: Unit, address: u32, lanes: u8) -> Decoded
+    ensures { λ r. ⌜ decodedAnswer r ≡ accepted (record { operation = record { write = write; unit = unit; address = address }; lanes = lanes }) ⌝ }
 {
-    let op = Operation {
+    let operation = Operation {
         write: write,
         unit: unit,
         address: address,
     };
-    Decoded::Means(op)
+    let meant = Meaning {
+        operation: operation,
+        lanes: lanes,
+    };
+    Decoded::Means(meant)
 }
 
-// A block begins where the lines below its size are zero.
+// All four lanes of a word.
+const WHOLE: u8 = 0b1111;
+
+// A block begins where the lines below its size are zero, and has four lanes in each of its words.
 fn block(write: bool, ad: u32) -> Decoded
     ensures { λ r. ⌜ decodedAnswer r ≡ meaning write ad (blockOf ad) ⌝ }
 {
@@ -181,14 +195,15 @@ fn block(write: bool, ad: u32) -> Decoded
         Size::Is(unit) => {
             let row = measured(unit);
             let low = ad % row.0;
-            means(write, unit, ad - low)
+            means(write, unit, ad - low, WHOLE)
         }
         Size::NoMeaning => Decoded::NoMeaning,
     }
 }
 
-// What the lines of a START ask for; refusal 4 for a code with no meaning. A byte, halfword or word stands at its row's offset in the
-// word at AD.
+// What the lines of a START ask for, and by which lanes; refusal 4 for a code with no meaning. A byte, halfword or word stands at its row's
+// offset in the word at AD, and has one lane, two or four from there on (document 02, wish 4). Nothing else in the tree works out what the low lines
+// of a START mean (docs/DECISIONS.md, "Who reads TM and AD").
 pub fn decode(code: Code) -> Decoded
     ensures { λ r. ⌜ decodedAnswer r ≡ decodeOf (code .tm1) (code .tm0) (code .ad) ⌝ }
 {
@@ -198,9 +213,9 @@ pub fn decode(code: Code) -> Decoded
     let offset = mode.2 as u32;
     let address = ad - ad % 4 + offset;
     match kind {
-        Kind::Byte => means(mode.0, Unit::Byte, address),
-        Kind::Halfword => means(mode.0, Unit::Halfword, address),
-        Kind::Word => means(mode.0, Unit::Word, address),
+        Kind::Byte => means(mode.0, Unit::Byte, address, 0b1 << mode.2),
+        Kind::Halfword => means(mode.0, Unit::Halfword, address, 0b11 << mode.2),
+        Kind::Word => means(mode.0, Unit::Word, address, WHOLE),
         Kind::Block => block(mode.0, ad),
     }
 }
@@ -215,8 +230,9 @@ pub fn words_owed(tm0: bool, ad: u32) -> u8
         ad: ad,
     };
     match decode(code) {
-        Decoded::Means(asked) => {
-            let unit = asked.unit;
+        Decoded::Means(meaning) => {
+            let operation = meaning.operation;
+            let unit = operation.unit;
             words(unit)
         }
         Decoded::NoMeaning => 0,

@@ -3,6 +3,7 @@ use mathlib.Core.Path.{refl}
 use Rattle.basics.specs.Lines.{bit, active, activeBelow}
 use Rattle.slots.specs.Set.{topBelow}
 use Rattle.record.specs.Layout.{packed}
+use Rattle.codes.specs.Lanes.{lanesOf}
 use Rattle.codes.specs.Start.{blockOf, unitOf, decodeOf}
 use Rattle.codes.specs.Parity.{parityOf}
 use Rattle.contest.specs.Contest.{winnerOf}
@@ -15,7 +16,7 @@ use Rattle.reached.proofs.Cases.{P7, P8}
 use Rattle.examples.specs.Examples.{Examples}
 
 pub examples : Examples
-unfolding bit active activeBelow topBelow packed blockOf unitOf decodeOf parityOf winnerOf legal valid private owns ownerBelow supplied guarded sound every coherent valueRead blockRead copyLeft blockWritten blockEvicted placed withBlock fit named refusal after readOf
+unfolding bit active activeBelow topBelow packed lanesOf blockOf unitOf decodeOf parityOf winnerOf legal valid private owns ownerBelow supplied guarded sound every coherent valueRead blockRead copyLeft blockWritten blockEvicted placed withBlock fit named refusal after readOf
 examples =
     record {
       p1 = refl;

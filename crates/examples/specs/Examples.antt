@@ -9,7 +9,7 @@ use Rattle.record.specs.declared.Record.{Record}
 use Rattle.record.specs.Layout.{packed}
 use Rattle.record.specs.Packing.{blank}
 use Rattle.codes.specs.declared.Unit.the-variants.{Halfword, Eight, Sixteen}
-use Rattle.codes.specs.Start.{decodeOf, noOperation}
+use Rattle.codes.specs.Start.{decodeOf, nothingMeant}
 use Rattle.codes.specs.Parity.{parityOf}
 use Rattle.contest.specs.declared.Winner.the-variants.{Slot}
 use Rattle.contest.specs.Contest.{winnerOf}
@@ -54,12 +54,12 @@ p9Read = afterRead p9Written 0 4
 pub record Examples : Type 0 where
   -- P1 "stamp FFFFFFFE, RQST, ARB 10: bytes FF FF FF FE 68, then eleven 00."
   pub p1 : packed p1Record ≡ (0xFF ∷ 0xFF ∷ 0xFF ∷ 0xFE ∷ 0x68 ∷ []) ++ replicate 11 0
-  -- P2 "read, TM0 0, AD 0000100E: block of 8 at 00001000. AD 1E: 16 words at 0. AD 3E: refusal 4."
-  pub p2-eight : decodeOf false false 0x100E ≡ accepted (record { write = false; unit = Eight; address = 0x1000 })
-  pub p2-sixteen : decodeOf false false 0x1E ≡ accepted (record { write = false; unit = Sixteen; address = 0 })
-  pub p2-none : decodeOf false false 0x3E ≡ refused 4 noOperation
-  -- P3 "write, TM0 0, AD 00002003: halfword at 00002002."
-  pub p3 : decodeOf true false 0x2003 ≡ accepted (record { write = true; unit = Halfword; address = 0x2002 })
+  -- P2 "read, TM0 0, AD 0000100E: block of 8 at 00001000. AD 1E: 16 words at 0. AD 3E: refusal 4." Beside it the lanes of document 02, wish 4: four
+  pub p2-eight : decodeOf false false 0x100E ≡ accepted (record { operation = record { write = false; unit = Eight; address = 0x1000 }; lanes = 15 })
+  pub p2-sixteen : decodeOf false false 0x1E ≡ accepted (record { operation = record { write = false; unit = Sixteen; address = 0 }; lanes = 15 })
+  pub p2-none : decodeOf false false 0x3E ≡ refused 4 nothingMeant
+  -- P3 "write, TM0 0, AD 00002003: halfword at 00002002." It is halfword 1: lanes 2 and 3
+  pub p3 : decodeOf true false 0x2003 ≡ accepted (record { operation = record { write = true; unit = Halfword; address = 0x2002 }; lanes = 12 })
   -- P4 "parity of 0: inactive; 80000000: active; FFFFFFFF: inactive."
   pub p4-none : parityOf 0 ≡ false
   pub p4-one : parityOf 0x80000000 ≡ true

@@ -8,7 +8,7 @@ use lib.ListN.{getD}
 use lib.Dec.{eqb}
 use Rattle.basics.specs.Answers.{Answer}
 use Rattle.record.specs.declared.Record.{Record}
-use Rattle.codes.specs.declared.Operation.{Operation}
+use Rattle.codes.specs.declared.Meaning.{Meaning}
 use Rattle.codes.specs.declared.Unit.{Unit}
 use Rattle.codes.specs.declared.Unit.the-variants.{Byte, Halfword, Word, Two, Four, Eight, Sixteen}
 use Rattle.codes.specs.Start.{decodeOf}
@@ -36,13 +36,13 @@ space slot = 0xF00 + slot * 16
 
 -- what a START's code means, by the decoder, is a word write to that space with the number in AD5 to AD2; AD19 to AD6 are free (001, 3.3:
 -- the address "folds around")
-unfoldable pub writesTo : Mark → Answer Operation → Bool
+unfoldable pub writesTo : Mark → Answer Meaning → Bool
 writesTo m a =
     eqb (a .number) 0
-    && a .value .write
-    && isWord (a .value .unit)
-    && eqb (a .value .address / 2 ^ 20) (space (m .slot))
-    && eqb (a .value .address / 4 % 16) (m .number)
+    && a .value .operation .write
+    && isWord (a .value .operation .unit)
+    && eqb (a .value .operation .address / 2 ^ 20) (space (m .slot))
+    && eqb (a .value .operation .address / 4 % 16) (m .number)
 
 -- a START of the mark: no attention cycle, and not in a RESET record
 unfoldable pub isStartOf : Mark → Record → Bool

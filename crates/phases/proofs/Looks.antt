@@ -11,7 +11,7 @@ use borrow.Author.Tests.{leb-true}
 use Rattle.basics.proofs.Bools.{cond-true, cond-false, and-both}
 use Rattle.record.specs.declared.Record.{Record}
 use Rattle.record.specs.Packing.{linesOf, spareOf}
-use Rattle.codes.specs.declared.Operation.{Operation}
+use Rattle.codes.specs.declared.Meaning.{Meaning}
 use Rattle.codes.specs.declared.Decoded.{Decoded}
 use Rattle.codes.specs.declared.Decoded.the-variants.{Means, NoMeaning}
 use Rattle.codes.specs.Start.{decodeOf, decodedAnswer}
@@ -30,10 +30,10 @@ use Rattle.marks.specs.State.{namedTo, waiting, acked, seenOf, risesTo}
 use Rattle.phases.specs.Parts.{matters, Reaches}
 
 -- ---- a mark's START
-pub writes-means : (m : Mark) (op : Operation) (d : Decoded) (word : Bool) → d ≡ Means op → word ≡ isWord (op .unit)
-    → (op .write && word && eqb (op .address / 1048576) (0xF00 + m .slot * 16) && eqb (op .address / 4 % 16) (m .number)) ≡ writesTo m (decodedAnswer d)
+pub writes-means : (m : Mark) (n : Meaning) (d : Decoded) (word : Bool) → d ≡ Means n → word ≡ isWord (n .operation .unit)
+    → (n .operation .write && word && eqb (n .operation .address / 1048576) (0xF00 + m .slot * 16) && eqb (n .operation .address / 4 % 16) (m .number)) ≡ writesTo m (decodedAnswer d)
 unfolding writesTo
-writes-means m op d word de we = rw (de, we)
+writes-means m n d word de we = rw (de, we)
 
 pub writes-none : (m : Mark) (d : Decoded) → d ≡ NoMeaning → false ≡ writesTo m (decodedAnswer d)
 unfolding writesTo

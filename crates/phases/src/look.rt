@@ -47,7 +47,8 @@ fn writes_to(mark: Mark, decoded: Decoded) -> bool
     ensures { λ r. ⌜ r ≡ writesTo mark (decodedAnswer decoded) ⌝ }
 {
     match decoded {
-        Decoded::Means(op) => {
+        Decoded::Means(meaning) => {
+            let op = meaning.operation;
             let unit = op.unit;
             op.write
                 & is_word(unit)

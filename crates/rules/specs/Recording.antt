@@ -63,7 +63,7 @@ pub record Opened (r : Lines) (i k : ℕ) : Type 0 where
 
 -- the words of the unit that a START's code means
 unfoldable pub wordsAt : Lines → ℕ → ℕ
-wordsAt r k = wordsIn (decodeOf (r k .tm1) (r k .tm0) (r k .ad) .value .unit)
+wordsAt r k = wordsIn (decodeOf (r k .tm1) (r k .tm0) (r k .ad) .value .operation .unit)
 
 -- record m is a strobe of the block transfer that began at record k: "TM0 with neither START nor ACK"
 abbrev pub strobeOf : Lines → ℕ → ℕ → Bool

@@ -135,11 +135,13 @@ pub(crate) fn decode(call: &[u8; 64], out: &mut [u8; 64]) {
     };
     let decoded = codes::decode(code);
     match decoded {
-        Decoded::Means(op) => {
+        Decoded::Means(meaning) => {
+            let op = meaning.operation;
             let unit = op.unit;
             numbers::put_flag(out, 1, op.write);
             out[2] = unit_number(unit);
             numbers::put_word(out, 3, op.address);
+            out[7] = meaning.lanes;
         }
         Decoded::NoMeaning => {
             out[0] = 4;

@@ -1,8 +1,12 @@
 use borrow.Author.Needs.{needs}
+use Prim.Native.Nat.{ℕ, _-_, _%_}
 use native.Mathlib.Nat.{mod-le}
 use mathlib.Core.Path.{_∙_, ap, sym}
+use Rattle.basics.specs.Answers.{accepted}
+use Rattle.codes.specs.Units.{bytesIn}
 use Rattle.codes.specs.Start.{meaning}
 use Rattle.codes.proofs.Laws.{some-bytes}
+use Rattle.codes.proofs.LaneLaws.{block-lanes}
 use Rattle.codes.proofs.block.Statement.{statement}
 use Rattle.codes.proofs.block.Tie as tie
 
@@ -30,9 +34,12 @@ enum-told c = search needs
 returns : tie.Need-returns
 returns c =
     let a = c .before .before .before .before .before .before .before .args in
+    let u = c .before .before .before .before .unit .given in
+    let e = sym (u .1) ∙ c .before .before .before .before .before .before .block-length .ensures in
     c .means .ensures
     ∙ rw (c .before .before .measured .ensures)
-    (ap (meaning (a .write) (a .ad)) (sym (c .before .before .before .before .unit .given .1) ∙ c .before .before .before .before .before .before .block-length .ensures))
+    (ap (λ (l : ℕ). accepted (record { operation = record { write = a .write; unit = u .0 .0; address = a .ad - a .ad % bytesIn (u .0 .0) }; lanes = l })) (sym (block-lanes (a .ad) (u .0 .0) e))
+    ∙ ap (meaning (a .write) (a .ad)) e)
 
 returns-2 : tie.Need-returns-2
 returns-2 c =

@@ -1,10 +1,10 @@
 use borrow.Author.Needs.{needs}
 use Prim.Native.Nat.{_<_}
-use mathlib.Core.Path.{_∙_}
+use mathlib.Core.Path.{refl, _∙_}
 use native.Mathlib.Omega.{arith}
-use Rattle.basics.specs.Lines.{active}
+use Rattle.codes.specs.declared.Unit.the-variants.{Byte, Halfword, Word}
 use Rattle.codes.specs.declared.Kind.{Kind}
-use Rattle.codes.proofs.Modes.{offset-less, arm-says}
+use Rattle.codes.proofs.Modes.{row-offset, arm-says, arm-means}
 use Rattle.codes.proofs.decode.Statement.{statement}
 use Rattle.codes.proofs.decode.Tie as tie
 
@@ -17,21 +17,27 @@ cast-offset c = search needs
 sub-address : tie.Need-sub-address
 sub-address c = search needs
 
+-- the row's offset, by which an address and lanes are moved
+small : (c : tie.After-mode-of) → c .mode-of .result .2 < 4
+small c = let a = c .before .args .code in row-offset (a .tm1) (a .tm0) (a .ad) (c .mode-of .result) (c .mode-of .ensures)
+
 add-address : tie.Need-add-address
-add-address c =
-    let a = c .before .before .args .code in
-    let m = c .before .mode-of in
-    let o : m .result .2 < 4 = rw (m .ensures) (offset-less (a .tm0) (active 1 (a .ad)) (active 0 (a .ad))) in
-    omega arith
+add-address c = let o = small (c .before) in omega arith
 
 enum-told : tie.Need-enum-told
 enum-told c = search needs
+
+shl-means : tie.Need-shl-means
+shl-means c = let o = small (c .before .before .before .before) in omega arith
 
 means-requires : tie.Need-means-requires
 means-requires c κs = search needs
 
 enum-told-2 : tie.Need-enum-told-2
 enum-told-2 c = search needs
+
+shl-means-2 : tie.Need-shl-means-2
+shl-means-2 c = let o = small (c .before .before .before .before) in omega arith
 
 means-requires-2 : tie.Need-means-requires-2
 means-requires-2 c κs = search needs
@@ -50,15 +56,21 @@ block-requires c κs = search needs
 
 returns : tie.Need-returns
 returns c =
-    c .means .ensures ∙ arm-says _ _ _ _ Kind.Byte (c .before .before .before .before .mode-of .ensures) (c .before .enum-told .given .1)
+    let e = c .before .before .before .before .before .mode-of .ensures in
+    let t = c .before .before .enum-told .given .1 in
+    c .means .ensures ∙ arm-means Byte _ _ _ _ _ Kind.Byte e t refl (λ f. f)
 
 returns-2 : tie.Need-returns-2
 returns-2 c =
-    c .means2 .ensures ∙ arm-says _ _ _ _ Kind.Halfword (c .before .before .before .before .mode-of .ensures) (c .before .enum-told2 .given .1)
+    let e = c .before .before .before .before .before .mode-of .ensures in
+    let t = c .before .before .enum-told2 .given .1 in
+    c .means2 .ensures ∙ arm-means Halfword _ _ _ _ _ Kind.Halfword e t refl (λ f. f)
 
 returns-3 : tie.Need-returns-3
 returns-3 c =
-    c .means3 .ensures ∙ arm-says _ _ _ _ Kind.Word (c .before .before .before .before .mode-of .ensures) (c .before .enum-told3 .given .1)
+    let e = c .before .before .before .before .mode-of .ensures in
+    let t = c .before .enum-told3 .given .1 in
+    c .means3 .ensures ∙ arm-means Word _ _ _ _ _ Kind.Word e t refl (λ f. f)
 
 returns-4 : tie.Need-returns-4
 returns-4 c =
@@ -73,8 +85,10 @@ decode-spec =
     sub-address
     add-address
     enum-told
+    shl-means
     means-requires
     enum-told-2
+    shl-means-2
     means-requires-2
     enum-told-3
     means-requires-3

@@ -9,8 +9,8 @@ use Rattle.codes.proofs.words_owed.Tie as tie
 decode-requires : tie.Need-decode-requires
 decode-requires c κs = search needs
 
-enum-known-asked : tie.Need-enum-known-asked
-enum-known-asked c = search needs
+enum-known-meaning : tie.Need-enum-known-meaning
+enum-known-meaning c = search needs
 
 words-requires : tie.Need-words-requires
 words-requires c κs = search needs
@@ -20,10 +20,10 @@ enum-told c = search needs
 
 returns : tie.Need-returns
 returns c =
-    let a = c .before .before .before .before .before .args in
-    let d = c .before .before .before .before .decode in
+    let a = c .before .before .before .before .before .before .args in
+    let d = c .before .before .before .before .before .decode in
     c .words .ensures
-    ∙ sym (owed-means false (a .tm0) (a .ad) _ (sym (d .ensures) ∙ ap decodedAnswer (c .before .before .asked .given .1)))
+    ∙ sym (owed-means false (a .tm0) (a .ad) _ (sym (d .ensures) ∙ ap decodedAnswer (c .before .before .before .meaning .given .1)))
 
 returns-2 : tie.Need-returns-2
 returns-2 c =
@@ -32,4 +32,4 @@ returns-2 c =
 
 pub words-owed-spec : {M : Type 1} → statement M
 words-owed-spec =
-    tie.close (tie.spec decode-requires enum-known-asked words-requires enum-told returns returns-2)
+    tie.close (tie.spec decode-requires enum-known-meaning words-requires enum-told returns returns-2)

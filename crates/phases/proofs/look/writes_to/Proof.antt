@@ -26,7 +26,7 @@ enum-told : tie.Need-enum-told
 enum-told c = search needs
 
 returns : tie.Need-returns
-returns c = let a = c .before .before .before .before .before .before .before .before .before .args in writes-means (a .mark) _ (a .decoded) (c .before .before .before .before .before .is-word .result) (c .before .before .before .before .before .before .before .decoded .given .1) (c .before .before .before .before .before .is-word .ensures)
+returns c = let a = c .before .before .before .before .before .before .before .before .before .before .args in writes-means (a .mark) _ (a .decoded) (c .before .before .before .before .before .is-word .result) (c .before .before .before .before .before .before .before .before .decoded .given .1) (c .before .before .before .before .before .is-word .ensures)
 
 returns-2 : tie.Need-returns-2
 returns-2 c = let a = c .before .before .args in writes-none (a .mark) (a .decoded) (c .enum-told .given .1)
