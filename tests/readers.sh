@@ -2,8 +2,8 @@
 # Document 02, wish 4: one decoder, and no other place that works out what a START's low lines mean. Whoever reads TM1, TM0 or AD stands in
 # docs/DECISIONS.md, "Who reads TM and AD"; here the list is compared with the tree, both ways.
 #   tests/readers.sh ROOT
-# A reader is a function of crates/*/src that names one of the three, as a field or a parameter, or a file of definitions that does. The last
-# line is 'readers: N passed, M failed'.
+# A reader is a function of crates/*/src that names one of the three, as a field or a parameter, or reads byte 5 to 9 of something, which in a record
+# are TM, SP, SPV and AD (in the driver they are a call's); or a file of definitions that names one. The last line is 'readers: N passed, M failed'.
 set -u
 root=$1
 passed=0 failed=0
@@ -19,7 +19,8 @@ functions() {
         }
         { sub(/\/\/.*/, ""); gsub(/"[^"]*"/, "") }
         match($0, /(^| )fn [a-z_0-9]+/) { name = substr($0, RSTART, RLENGTH); sub(/.* /, "", name) }
-        name != "" && /(^|[^A-Za-z_0-9])(tm1|tm0|ad)([^A-Za-z_0-9]|$)/ { print path name }' "$root"/crates/*/src/*.rt
+        name != "" && /(^|[^A-Za-z_0-9])(tm1|tm0|ad)([^A-Za-z_0-9]|$)/ { print path name }
+        name != "" && path !~ /^spurcalls/ && /[a-z_]\[[5-9]\]/ { print path name }' "$root"/crates/*/src/*.rt
 }
 
 definitions() {
