@@ -77,7 +77,7 @@ code-means op h =
 pub same-value : {A : Type 0} {v w : A} → accepted v ≡ accepted w → v ≡ w
 same-value e = ap (λ a. a .value) e
 
-never : {A : Type 0} {v z : A} → refused 4 z ≡ accepted v → ⊥
+pub never : {A : Type 0} {v z : A} → refused 4 z ≡ accepted v → ⊥
 never e = let n : _≡_ {A = ℕ} 4 0 = ap (λ a. a .number) e in omega arith
 
 -- what is encoded is aligned

@@ -63,12 +63,12 @@ block-whole ad =
     choice (Whole ad) (active 2 ad)
     (λ _.
     choice (Whole ad) (active 3 ad)
-    (λ _. choice (Whole ad) (active 4 ad) (λ _. choice (Whole ad) (active 5 ad) (λ _. refl) (λ _. of Sixteen 16 refl (omega arith) (omega arith))) (λ _. of Eight 8 refl (omega arith) (omega arith)))
-    (λ _. of Four 4 refl (omega arith) (omega arith)))
-    (λ _. of Two 2 refl (omega arith) (omega arith))
-  where
-    of : (u : Unit) (n : ℕ) → bytesIn u ≡ 4 * n → 0 < n → (ad - ad % bytesIn u) % 4 ≡ 0 → lanesOf u (ad - ad % bytesIn u) ≡ 15
-    of u n b some z = words-lanes u n (ad - ad % bytesIn u) b some z
+    (λ _.
+    choice (Whole ad) (active 4 ad)
+    (λ _. choice (Whole ad) (active 5 ad) (λ _. refl) (λ _. words-lanes Sixteen 16 (ad - ad % 64) refl (omega arith) (omega arith)))
+    (λ _. words-lanes Eight 8 (ad - ad % 32) refl (omega arith) (omega arith)))
+    (λ _. words-lanes Four 4 (ad - ad % 16) refl (omega arith) (omega arith)))
+    (λ _. words-lanes Two 2 (ad - ad % 8) refl (omega arith) (omega arith))
 
 pub block-lanes : (ad : ℕ) (u : Unit) → Is u ≡ blockOf ad → lanesOf u (ad - ad % bytesIn u) ≡ 15
 block-lanes ad u e = subst (Whole ad) (sym e) (block-whole ad)

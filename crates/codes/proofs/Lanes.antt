@@ -1,5 +1,5 @@
 -- The wish's sentences on lanes (document 02, wish 4), of every meaning that the decoder gives. Assumes nothing.
-use Prim.Native.Nat.{ℕ, zero, suc, _+_, _*_, _%_, _^_, _<_}
+use Prim.Native.Nat.{ℕ, _+_, _*_, _%_, _^_, _<_}
 use mathlib.Core.Path.{_≡_, refl, sym, _∙_, ap, subst}
 use mathlib.Core.Logic.{_↔_}
 use mathlib.Core.Bool.{Bool, false, _&&_, _||_}
@@ -17,16 +17,12 @@ use Rattle.codes.specs.Lanes.{lanesOf, withLanes, laneCount, Carried, Ha
 use Rattle.codes.specs.Start.{unitOf, meaning, decodeOf}
 use Rattle.codes.proofs.Laws.{below4}
 use Rattle.codes.proofs.LaneLaws.{lanes-low, byte-lane, word-carries, words-lanes, four-lanes, lane-carries, only-word}
-use Rattle.codes.proofs.BothWays.{same-value, meaning-aligned}
+use Rattle.codes.proofs.BothWays.{same-value, never, meaning-aligned}
 
 -- ---- of each unit at an aligned address
 -- an even number below 4
 even4 : (P : ℕ → Type 0) → P 0 → P 2 → (q : ℕ) → q < 4 → q % 2 ≡ 0 → P q
-even4 P a b zero h e = a
-even4 P a b (suc zero) h e = absurd (omega arith)
-even4 P a b (suc (suc zero)) h e = b
-even4 P a b (suc (suc (suc zero))) h e = absurd (omega arith)
-even4 P a b (suc (suc (suc (suc q)))) h e = absurd (omega arith)
+even4 P a b = below4 (λ q. q % 2 ≡ 0 → P q) (λ _. a) (λ e. absurd (omega arith)) (λ _. b) (λ e. absurd (omega arith))
 
 -- a unit of another size is another unit
 other : {A : Type 0} (u v : Unit) → u ≡ v → (bytesIn u ≡ bytesIn v → ⊥) → A
@@ -83,7 +79,7 @@ lanes-beside code m = go (unitOf (code .tm0) (code .ad))
     go (Is u) e =
         let same = same-value e in
         sym same ∙ ap (λ (x : Meaning). withLanes (x .operation)) same
-    go NoMeaning e = let n : _≡_ {A = ℕ} 4 0 = ap (λ a. a .number) e in absurd (omega arith)
+    go NoMeaning e = absurd (never e)
 
 -- THE WISH, of every code that has a meaning
 pub lanes-right : (code : Code) (m : Meaning) → decodeOf (code .tm1) (code .tm0) (code .ad) ≡ accepted m → Carried (m .operation) (m .lanes)
