@@ -9,7 +9,7 @@ use native.Mathlib.Numerals.{add-one}
 use lib.Dec.{eqb, ltb, leb}
 use lib.ListN.{length, getD}
 use borrow.Author.Tests.{eq-eqb, ne-eqb, lt-ltb, le-ltb, ltb-true}
-use Rattle.basics.specs.Numbers.{lawfulLimit}
+use Rattle.basics.specs.Numbers.{watchdog, lawfulLimit}
 use Rattle.basics.specs.Answers.{Answer, accepted, refused}
 use Rattle.basics.proofs.Bools.{and-both, cond-false, by-test}
 use Rattle.slots.specs.Set.{mem, top}
@@ -25,6 +25,7 @@ use Rattle.cycle.specs.declared.Transfer.{Transfer}
 use Rattle.cycle.specs.declared.Transfer.the-variants.{Idle, Open}
 use Rattle.cycle.specs.declared.Event.{Event}
 use Rattle.cycle.specs.declared.Event.the-variants.{Nothing, Strobe, Finish}
+use Rattle.cycle.specs.declared.Note.{Note}
 use Rattle.cycle.specs.declared.Note.the-variants.{Clear, Short, Extra}
 use Rattle.cycle.specs.declared.Ending.the-variants.{Unended}
 use Rattle.cycle.specs.declared.Moved.{Moved}
@@ -34,7 +35,7 @@ use Rattle.cycle.specs.Bounds.{inBounds, lawfulCounts, lawfulOwner, lawfulTrans
 use Rattle.cycle.specs.Cycle.{resetOf, unmoved, stepOf, cycleOf}
 use Rattle.cycle.specs.Nodes.{setsOf, stepSetsOf, stepTableOf}
 use Rattle.cycle.specs.Arbitration.{attends, formed, parked, forming, waits, stays, leaves, starting, serving, arbitrationOf}
-use Rattle.cycle.specs.Transfers.{opened, attention, strayOf, shortOf, finished, timedOut, aged, expires, struck, goingOn, progressOf}
+use Rattle.cycle.specs.Transfers.{opened, attention, strayOf, shortOf, finished, timedOut, ageOf, aged, watched, taken, struck, goingOn, progressOf}
 
 module _ (b : Bus) (wants : ℕ) where
   pub form-park : (o : ℕ) → b .transfer ≡ Idle → b .owner ≡ Slot o → mem o wants ≡ true → forming (b .transfer) (b .owner) b wants ≡ parked o wants
@@ -142,11 +143,19 @@ module _ (status : Status) (owed : ℕ) where
   short-one e l = rw (e, shortOf, le-ltb 1 owed l)
 
 module _ (owed age : ℕ) where
-  pub struck-more : 1 < owed → struck owed age ≡ aged (owed - 1) age Clear
+  pub watched-late : (n : Note) → ageOf age ≡ watchdog → watched owed age n ≡ timedOut
+  unfolding watched
+  watched-late n a = rw (eq-eqb (ageOf age) watchdog a)
+
+  pub watched-on : (n : Note) → (ageOf age ≡ watchdog → ⊥) → watched owed age n ≡ aged owed age n
+  unfolding watched
+  watched-on n a = rw (ne-eqb (ageOf age) watchdog a)
+
+  pub struck-more : 1 < owed → struck owed age ≡ taken owed
   unfolding struck
   struck-more l = rw (lt-ltb 1 owed l)
 
-  pub struck-one : owed ≤ 1 → struck owed age ≡ aged owed age Extra
+  pub struck-one : owed ≤ 1 → struck owed age ≡ watched owed age Extra
   unfolding struck
   struck-one l = rw (le-ltb 1 owed l)
 
@@ -155,21 +164,13 @@ module _ (e : Event) (owed age : ℕ) where
   unfolding goingOn
   going-finish s q = rw q
 
-  pub strobe-late : e ≡ Strobe → expires age ≡ true → goingOn e owed age ≡ timedOut
+  pub going-strobe : e ≡ Strobe → goingOn e owed age ≡ struck owed age
   unfolding goingOn
-  strobe-late q a = rw (q, goingOn, a)
+  going-strobe q = rw q
 
-  pub strobe-on : e ≡ Strobe → expires age ≡ false → goingOn e owed age ≡ struck owed age
+  pub going-nothing : e ≡ Nothing → goingOn e owed age ≡ watched owed age Clear
   unfolding goingOn
-  strobe-on q a = rw (q, goingOn, a)
-
-  pub nothing-late : e ≡ Nothing → expires age ≡ true → goingOn e owed age ≡ timedOut
-  unfolding goingOn
-  nothing-late q a = rw (q, goingOn, a)
-
-  pub nothing-on : e ≡ Nothing → expires age ≡ false → goingOn e owed age ≡ aged owed age Clear
-  unfolding goingOn
-  nothing-on q a = rw (q, goingOn, a)
+  going-nothing q = rw q
 
 module _ (t : Transfer) (e : Event) (s : Owner) (wants : ℕ) (words : List ℕ) where
   pub move-idle : t ≡ Idle → progressOf t e s wants words ≡ record { transfer = opened s wants words; ack = attention s wants words; status = Unended; note = strayOf e }

@@ -2,7 +2,7 @@
 // a finish, the watchdog and a strobe do to it). The definitions stand in crate `cycle`, specs/Transfers.antt.
 ghost use mathlib.Core.Path.{_≡_};
 ghost use Prim.Native.Nat.{_<_};
-ghost use Rattle.cycle.specs.Transfers.{opened, attention, strayOf, shortOf, finished, timedOut, aged, struck, goingOn, progressOf};
+ghost use Rattle.cycle.specs.Transfers.{opened, attention, strayOf, shortOf, finished, timedOut, aged, watched, taken, struck, goingOn, progressOf};
 use crate::arbitration::makes_attention;
 use codes::Status;
 use cycle::Bus;
@@ -99,18 +99,6 @@ fn grow(owed: u8, age: u8, note: Note) -> Progress
     }
 }
 
-// A strobe takes one owed word if more than one is owed, else it is noted as extra.
-fn strike(owed: u8, age: u8) -> Progress
-    requires { ⌜ age < 255 ⌝ }
-    ensures { λ r. ⌜ r ≡ struck owed age ⌝ }
-{
-    if 1 < owed {
-        grow(owed - 1, age, Note::Clear)
-    } else {
-        grow(owed, age, Note::Extra)
-    }
-}
-
 // The watchdog gives ACK with timeout.
 fn time_out() -> Progress
     ensures { λ r. ⌜ r ≡ timedOut ⌝ }
@@ -123,21 +111,52 @@ fn time_out() -> Progress
     }
 }
 
-// A transfer open before: a finish wins over the watchdog, and the watchdog over a strobe.
+// No finish, and no word taken: at age 256 the watchdog ends the transfer, and nothing is noted.
+fn watch(owed: u8, age: u8, note: Note) -> Progress
+    ensures { λ r. ⌜ r ≡ watched owed age note ⌝ }
+{
+    if age as u16 + 1 == Bus::WATCHDOG {
+        time_out()
+    } else {
+        grow(owed, age, note)
+    }
+}
+
+// An owed word is taken, and the age returns to 0 (02, wish 5).
+fn take(owed: u8) -> Progress
+    requires { ⌜ 1 < owed ⌝ }
+    ensures { λ r. ⌜ r ≡ taken owed ⌝ }
+{
+    Progress {
+        transfer: Transfer::Open {
+            owed: owed - 1,
+            age: 0,
+        },
+        ack: false,
+        status: Ending::Unended,
+        note: Note::Clear,
+    }
+}
+
+// A strobe takes one owed word if more than one is owed, at age 256 too, else it is noted as extra.
+fn strike(owed: u8, age: u8) -> Progress
+    ensures { λ r. ⌜ r ≡ struck owed age ⌝ }
+{
+    if 1 < owed {
+        take(owed)
+    } else {
+        watch(owed, age, Note::Extra)
+    }
+}
+
+// A transfer open before: a finish wins over the watchdog, and so does a strobe that takes a word.
 fn go_on(e: Event, owed: u8, age: u8) -> Progress
     ensures { λ r. ⌜ r ≡ goingOn e owed age ⌝ }
 {
-    let late = age as u16 + 1 == Bus::WATCHDOG;
     match e {
         Event::Finish(status) => finish(status, owed),
-        Event::Strobe => { if late { time_out() } else { strike(owed, age) } }
-        Event::Nothing => {
-            if late {
-                time_out()
-            } else {
-                grow(owed, age, Note::Clear)
-            }
-        }
+        Event::Strobe => strike(owed, age),
+        Event::Nothing => watch(owed, age, Note::Clear),
     }
 }
 

@@ -1,5 +1,5 @@
 -- The bounds of a state as facts; an open transfer keeps them and comes nearer its end. Assumes nothing.
-use Prim.Native.Nat.{ℕ, zero, suc, _+_, _-_, _^_, _<_, _≤_}
+use Prim.Native.Nat.{ℕ, zero, suc, _+_, _-_, _*_, _^_, _<_, _≤_}
 use mathlib.Core.Path.{_≡_, refl, ap, _∙_}
 use mathlib.Core.Bool.{Bool, true, false, cond, not, _||_}
 use mathlib.Core.List.{List}
@@ -20,15 +20,15 @@ use Rattle.cycle.specs.declared.Transfer.{Transfer}
 use Rattle.cycle.specs.declared.Transfer.the-variants.{Idle, Open}
 use Rattle.cycle.specs.declared.Note.{Note}
 use Rattle.cycle.specs.declared.Note.the-variants.{Clear, Extra}
-use Rattle.basics.specs.Numbers.{watchdog}
+use Rattle.basics.specs.Numbers.{watchdog, transferMost}
 use Rattle.cycle.specs.Bounds.{lawfulWord, lawfulBelow, lawfulWords}
 use Rattle.cycle.specs.Arbitration.{attends}
-use Rattle.cycle.specs.Transfers.{expires, opened, aged, timedOut, struck, goingOn, progressOf}
+use Rattle.cycle.specs.Transfers.{expires, opened, aged, timedOut, watched, taken, struck, goingOn, progressOf}
 
--- cycles until the watchdog ends an open transfer
+-- the cycles that an open transfer may still last: the watchdog's for each word owed
 unfoldable pub left : Transfer → ℕ
 left Idle = 0
-left (Open w a) = watchdog - a
+left (Open w a) = watchdog * w - a
 
 abbrev pub OwnerIn : Owner → Type 0
 OwnerIn Nobody = Unit {0}
@@ -49,41 +49,38 @@ pub record Sound (b : Bus) : Type 0 where
   pub rest : b .wave ≡ 0 → b .turn ≡ 0
   pub still : b .wave ≡ 0 → b .settling ≡ 0
 
-pub left-most : (t : Transfer) → TransferIn t → left t ≤ watchdog
+pub left-most : (t : Transfer) → TransferIn t → left t ≤ transferMost
 unfolding left
 left-most Idle h = omega arith
-left-most (Open w a) h = omega arith
+left-most (Open w a) h = omega (arith, h .1)
 
--- an open transfer of age a stays within the bounds and comes nearer its end
-abbrev Older : ℕ → Transfer → Type 0
-Older a t = TransferIn t × (suc (left t) ≤ watchdog - a)
+-- what an open transfer with w words owed and of age a becomes: within the bounds, and nearer its end
+abbrev Older : ℕ → ℕ → Transfer → Type 0
+Older w a t = TransferIn t × (suc (left t) ≤ watchdog * w - a)
 
-over-older : (a : ℕ) → a < watchdog → Older a Idle
+over-older : (w a : ℕ) → 1 ≤ w → a < watchdog → Older w a Idle
 unfolding left
-over-older a h = (tt, omega arith)
+over-older w a k h = (tt, omega arith)
 
-aged-older : (w a : ℕ) (n : Note) → 1 ≤ w → w ≤ 16 → a + 1 < watchdog → Older a ((aged w a n) .transfer)
-unfolding left
-aged-older w a n k l h = ((k, l, h), omega arith)
+watched-older : (w a : ℕ) (n : Note) → 1 ≤ w → w ≤ 16 → a < watchdog → Older w a ((watched w a n) .transfer)
+unfolding watched left
+watched-older w a n k l h =
+    choice (λ (p : Progress). Older w a (p .transfer)) (expires a)
+    (λ e. over-older w a k h)
+    (λ e. let d : a + 1 ≡ watchdog → ⊥ = eqb-false (a + 1) watchdog e in ((k, l, omega arith), omega arith))
 
-struck-older : (w a : ℕ) → 1 ≤ w → w ≤ 16 → a + 1 < watchdog → Older a ((struck w a) .transfer)
-unfolding struck
+struck-older : (w a : ℕ) → 1 ≤ w → w ≤ 16 → a < watchdog → Older w a ((struck w a) .transfer)
+unfolding struck left
 struck-older w a k l h =
-    choice (λ (p : Progress). Older a (p .transfer)) (ltb 1 w)
-    (λ e. let q : 1 < w = ltb-true 1 w e in aged-older (w - 1) a Clear (omega arith) (omega arith) h)
-    (λ e. aged-older w a Extra k l h)
+    choice (λ (p : Progress). Older w a (p .transfer)) (ltb 1 w)
+    (λ e. let q : 1 < w = ltb-true 1 w e in ((omega arith, omega arith, omega arith), omega arith))
+    (λ e. watched-older w a Extra k l h)
 
-watched : (a : ℕ) (p : Progress) → a < watchdog → (a + 1 < watchdog → Older a (p .transfer)) → Older a ((cond (expires a) timedOut p) .transfer)
-watched a p h f =
-    choice (λ (q : Progress). Older a (q .transfer)) (expires a)
-    (λ e. over-older a h)
-    (λ e. let d : a + 1 ≡ watchdog → ⊥ = eqb-false (a + 1) watchdog e in f (omega arith))
-
-going-older : (e : Event) (w a : ℕ) → 1 ≤ w → w ≤ 16 → a < watchdog → Older a ((goingOn e w a) .transfer)
+going-older : (e : Event) (w a : ℕ) → 1 ≤ w → w ≤ 16 → a < watchdog → Older w a ((goingOn e w a) .transfer)
 unfolding goingOn
-going-older (Finish s) w a k l h = over-older a h
-going-older Strobe w a k l h = watched a (struck w a) h (λ d. struck-older w a k l d)
-going-older Nothing w a k l h = watched a (aged w a Clear) h (λ d. aged-older w a Clear k l d)
+going-older (Finish s) w a k l h = over-older w a k h
+going-older Strobe w a k l h = struck-older w a k l h
+going-older Nothing w a k l h = watched-older w a Clear k l h
 
 -- the words of a slot
 word-at : (k : ℕ) (words : List ℕ) (i : ℕ) → i < k → lawfulBelow k words ≡ true → lawfulWord (getD words i 0) ≡ true

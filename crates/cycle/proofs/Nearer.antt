@@ -3,7 +3,7 @@
 use Prim.Native.Nat.{ℕ, suc, _-_, _<_, _≤_, max}
 use mathlib.Core.Path.{_≡_, subst}
 use native.Mathlib.Omega.{arith}
-use Rattle.basics.specs.Numbers.{watchdog}
+use Rattle.basics.specs.Numbers.{watchdog, transferMost}
 use Rattle.cycle.specs.declared.Bus.{Bus}
 use Rattle.cycle.specs.declared.Transfer.the-variants.{Open}
 use Rattle.cycle.specs.Arbitration.{waits}
@@ -16,7 +16,7 @@ use Rattle.cycle.proofs.Bounds.{Sound, TransferIn, left, left-most, pro
 unfoldable pub wait : Bus → ℕ
 wait b = max (b .settling) (left (b .transfer))
 
-pub wait-most : (b : Bus) → Sound b → wait b ≤ watchdog
+pub wait-most : (b : Bus) → Sound b → wait b ≤ transferMost
 unfolding wait
 wait-most b s = omega (arith, s .settled, left-most (b .transfer) (s .aging))
 
@@ -27,7 +27,7 @@ nearer-settles b i s l = let h = progress-left (b .transfer) (i .event) (wantsIn
 
 left-open : (b : Bus) (w a : ℕ) → Sound b → b .transfer ≡ Open w a → 0 < left (b .transfer)
 unfolding left
-left-open b w a s t = rw t (let y : a < watchdog = (subst TransferIn t (s .aging)) .2 in omega arith)
+left-open b w a s t = rw t (let y = subst TransferIn t (s .aging) in omega (arith, y .0, y .2))
 
 pub nearer-waits : (b : Bus) (i : Input) (w a : ℕ) → Sound b → b .settling ≡ 0 → b .transfer ≡ Open w a → suc (wait (nextBy b i (waits b 0))) ≤ wait b
 unfolding wait nextBy cycleBy movedBy stateBy

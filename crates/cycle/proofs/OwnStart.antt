@@ -8,7 +8,7 @@ use native.Mathlib.Omega.{arith}
 use lib.ListN.{length}
 use lib.Dec.{eqb}
 use borrow.Author.Tests.{eq-eqb, ne-eqb, eqb-true, eqb-false}
-use Rattle.basics.specs.Numbers.{watchdog}
+use Rattle.basics.specs.Numbers.{transferMost}
 use Rattle.slots.specs.Set.{mem, top}
 use Rattle.slots.proofs.MemberLaws.{mem-kept}
 use Rattle.cycle.specs.declared.Bus.{Bus}
@@ -29,7 +29,7 @@ use Rattle.cycle.proofs.Shares.{asks-on, parkable, turnsOf, turns-empty
 
 -- with no wave, the cycles until the next START: with nothing open a parked one may come first
 unfoldable pub vacant : ℕ → Transfer → ℕ
-vacant m Idle = 2 + (watchdog - 1) * parkable m
+vacant m Idle = 2 + (transferMost - 1) * parkable m
 vacant m (Open w a) = max 2 (left (Open w a))
 
 -- the cycles until the next START
@@ -42,16 +42,16 @@ pause m b = pauseOf m (b .wave) (b .transfer) (wait b)
 unfoldable pub turns : ℕ → Bus → ℕ
 turns m b = turnsOf m (b .limit) (b .wave) (b .turn)
 
-vacant-most : (m : ℕ) (t : Transfer) → left t ≤ watchdog → vacant m t ≤ watchdog + parkable m
+vacant-most : (m : ℕ) (t : Transfer) → left t ≤ transferMost → vacant m t ≤ transferMost + parkable m
 unfolding vacant
 vacant-most m Idle h = omega arith
 vacant-most m (Open w a) h = omega (arith, h)
 
-pub pause-most : (m : ℕ) (b : Bus) → Sound b → pause m b ≤ watchdog + parkable m
+pub pause-most : (m : ℕ) (b : Bus) → Sound b → pause m b ≤ transferMost + parkable m
 unfolding pause pauseOf
 pause-most m b s = go (eqb (b .wave) 0) (mem m (b .wave))
   where
-    go : (c d : Bool) → cond c (vacant m (b .transfer)) (wait b + cond d 0 (parkable m)) ≤ watchdog + parkable m
+    go : (c d : Bool) → cond c (vacant m (b .transfer)) (wait b + cond d 0 (parkable m)) ≤ transferMost + parkable m
     go true d = vacant-most m (b .transfer) (left-most (b .transfer) (s .aging))
     go false true = omega (arith, wait-most b s)
     go false false = omega (arith, wait-most b s)
@@ -65,10 +65,10 @@ unfolding pause pauseOf
 pause-wave m b n = rw (ne-eqb (b .wave) 0 n)
 
 -- after a START m is in the wave, and no parked one can come before it; or it is not
-pause-start : (m : ℕ) (b : Bus) (w : ℕ) → Sound b → mem m (b .wave) ≡ mem m w → pause m b ≤ watchdog + cond (mem m w) 0 (parkable m)
+pause-start : (m : ℕ) (b : Bus) (w : ℕ) → Sound b → mem m (b .wave) ≡ mem m w → pause m b ≤ transferMost + cond (mem m w) 0 (parkable m)
 pause-start m b w s q = go (mem m w) q
   where
-    go : (c : Bool) → mem m (b .wave) ≡ c → pause m b ≤ watchdog + cond c 0 (parkable m)
+    go : (c : Bool) → mem m (b .wave) ≡ c → pause m b ≤ transferMost + cond c 0 (parkable m)
     go true e = rw (pause-wave m b (λ z. mem-zero m (b .wave) z e), e) (omega (arith, wait-most b s))
     go false e = pause-most m b s
 
@@ -81,7 +81,7 @@ unfolding vacant left
 vacant-least m Idle = omega arith
 vacant-least m (Open w a) = omega arith
 
-vacant-idle : (m : ℕ) (t : Transfer) → t ≡ Idle → vacant m t ≡ 2 + (watchdog - 1) * parkable m
+vacant-idle : (m : ℕ) (t : Transfer) → t ≡ Idle → vacant m t ≡ 2 + (transferMost - 1) * parkable m
 unfolding vacant
 vacant-idle m t e = rw e
 

@@ -1,5 +1,5 @@
--- What a cycle answers in an attention cycle, to a stray event and to a finish (`Answers` of specs/Pinned.antt). Assumes nothing.
-use Prim.Native.Nat.{ℕ, _<_}
+-- What a cycle answers in an attention cycle, to a stray event, to a finish, to a word and by the watchdog (`Answers` of specs/Pinned.antt). Assumes nothing.
+use Prim.Native.Nat.{ℕ, _+_, _-_, _<_, _≤_}
 use mathlib.Core.Path.{_≡_, refl}
 use mathlib.Core.Bool.{true, false, cond, not, or-true}
 use mathlib.Core.List.{List}
@@ -7,7 +7,10 @@ use mathlib.Core.Logic.{_⊎_, inl, inr}
 use native.Mathlib.Omega.{arith}
 use lib.ListN.{getD}
 use Rattle.slots.specs.Set.{mem}
+use borrow.Author.Tests.{eq-eqb, lt-ltb, le-ltb}
+use Rattle.basics.specs.Numbers.{watchdog}
 use Rattle.codes.specs.declared.Status.{Status}
+use Rattle.codes.specs.declared.Status.the-variants.{Timeout}
 use Rattle.cycle.specs.declared.Bus.{Bus}
 use Rattle.cycle.specs.declared.Event.{Event}
 use Rattle.cycle.specs.declared.Event.the-variants.{Nothing, Strobe, Finish}
@@ -15,9 +18,9 @@ use Rattle.cycle.specs.declared.Owner.{Owner}
 use Rattle.cycle.specs.declared.Owner.the-variants.{Nobody, Slot}
 use Rattle.cycle.specs.declared.Transfer.the-variants.{Idle, Open}
 use Rattle.cycle.specs.declared.Ending.the-variants.{Unended, Ended}
-use Rattle.cycle.specs.declared.Note.the-variants.{Stray}
+use Rattle.cycle.specs.declared.Note.the-variants.{Clear, Stray}
 use Rattle.cycle.specs.Arbitration.{attends}
-use Rattle.cycle.specs.Transfers.{opened, attention, strayOf, goingOn, progressOf}
+use Rattle.cycle.specs.Transfers.{opened, attention, strayOf, watched, struck, goingOn, progressOf}
 use Rattle.cycle.specs.Cycle.{startsOf, stateBy, replyBy, movedBy, cycleBy, cycleOf}
 use Rattle.cycle.specs.Nodes.{blank}
 use Rattle.cycle.specs.Runs.{Input, wantsIn, wordsIn, cycleIn, next, startIn}
@@ -63,5 +66,16 @@ module _ (b : Bus) (i : Input) where
   unfolding next cycleIn cycleOf cycleBy movedBy stateBy replyBy progressOf goingOn
   finish-of owed age s t e = rw (t, e) (refl, refl, refl)
 
+  word-of : (owed age : ℕ) → b .transfer ≡ Open owed age → 1 < owed → i .event ≡ Strobe
+      → let r = (cycleIn b i) .reply in (r .ack ≡ false) × (r .note ≡ Clear) × ((next b i) .transfer ≡ Open (owed - 1) 0)
+  unfolding next cycleIn cycleOf cycleBy movedBy stateBy replyBy progressOf goingOn struck
+  word-of owed age t l e = rw (t, e, lt-ltb 1 owed l) (refl, refl, refl)
+
+  timer-of : (owed age : ℕ) → b .transfer ≡ Open owed age → age + 1 ≡ watchdog → (i .event ≡ Nothing) ⊎ ((i .event ≡ Strobe) × (owed ≤ 1))
+      → let r = (cycleIn b i) .reply in (r .ack ≡ true) × (r .status ≡ Ended Timeout) × (r .note ≡ Clear) × ((next b i) .transfer ≡ Idle)
+  unfolding next cycleIn cycleOf cycleBy movedBy stateBy replyBy progressOf goingOn struck watched
+  timer-of owed age t q (inl e) = rw (t, e, eq-eqb (age + 1) watchdog q) (refl, refl, refl, refl)
+  timer-of owed age t q (inr e) = rw (t, e .0, le-ltb 1 owed (e .1), eq-eqb (age + 1) watchdog q) (refl, refl, refl, refl)
+
   pub answers : Answers b i
-  answers = record { attention = attention-of; stray = stray-of; finish = finish-of }
+  answers = record { attention = attention-of; stray = stray-of; finish = finish-of; word = word-of; timer = timer-of }

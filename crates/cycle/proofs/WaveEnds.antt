@@ -8,7 +8,7 @@ use native.Mathlib.Decide.{ℕ-discrete}
 use lib.ListN.{length}
 use lib.Dec.{eqb}
 use borrow.Author.Tests.{eq-eqb, eqb-false}
-use Rattle.basics.specs.Numbers.{watchdog}
+use Rattle.basics.specs.Numbers.{transferMost}
 use Rattle.slots.specs.Set.{without, top, card}
 use Rattle.cycle.specs.declared.Bus.{Bus}
 use Rattle.cycle.specs.declared.Arbitration.{Arbitration}
@@ -46,8 +46,8 @@ same-remaining : (b : Bus) (i : Input) (n : ℕ) → remaining (nextBy b i (wait
 unfolding remaining nextBy cycleBy movedBy stateBy
 same-remaining b i n = refl
 
-over-by : (b : Bus) (i : Input) (is : List Input) (r : Arbitration) → Sound b → Case b i r → (b .wave ≡ 0 → ⊥) → wait b + pauseMost * remaining b ≤ suc (length is) + watchdog
-    → ((b′ : Bus) → Sound b′ → wait b′ + pauseMost * remaining b′ ≤ length is + watchdog → overIn b′ is ≡ true)
+over-by : (b : Bus) (i : Input) (is : List Input) (r : Arbitration) → Sound b → Case b i r → (b .wave ≡ 0 → ⊥) → wait b + pauseMost * remaining b ≤ suc (length is) + transferMost
+    → ((b′ : Bus) → Sound b′ → wait b′ + pauseMost * remaining b′ ≤ length is + transferMost → overIn b′ is ≡ true)
     → overIn (nextBy b i r) is ≡ true
 over-by b i is r s (forms z e) n h f = absurd (n z)
 over-by b i is r s (parks o z t m e) n h f = absurd (n z)
@@ -70,7 +70,7 @@ over-by b i is r s (retires n′ l t e) n h f =
     (f (nextBy b i (leaves b (top (b .wave)))) s′
     (omega (arith, wait-most (nextBy b i (leaves b (top (b .wave)))) s′, fewer-leaves b i s n)))
 
-pub over-of : (is : List Input) (b : Bus) → Sound b → wait b + pauseMost * remaining b ≤ length is + watchdog → overIn b is ≡ true
+pub over-of : (is : List Input) (b : Bus) → Sound b → wait b + pauseMost * remaining b ≤ length is + transferMost → overIn b is ≡ true
 unfolding overIn next cycleIn cycleOf nextBy arb
 over-of [] b s h = go (ℕ-discrete (b .wave) 0)
   where
@@ -79,7 +79,7 @@ over-of [] b s h = go (ℕ-discrete (b .wave) 0)
     go (no n) = absurd (omega (arith, fewer-one b s n))
 over-of (i ∷ is) b s h = go (eqb (b .wave) 0) refl (λ b′ s′ h′. over-of is b′ s′ h′)
   where
-    go : (c : Bool) → eqb (b .wave) 0 ≡ c → ((b′ : Bus) → Sound b′ → wait b′ + pauseMost * remaining b′ ≤ length is + watchdog → overIn b′ is ≡ true)
+    go : (c : Bool) → eqb (b .wave) 0 ≡ c → ((b′ : Bus) → Sound b′ → wait b′ + pauseMost * remaining b′ ≤ length is + transferMost → overIn b′ is ≡ true)
         → cond c true (overIn (next b i) is) ≡ true
     go true e f = refl
     go false e f = over-by b i is (arb b i) s (view b i) (eqb-false _ _ e) h f

@@ -30,20 +30,20 @@ pub record Demand3 (limit : ℕ) : Type 0 where
   -- and no master outside the wave starts in a later cycle before the wave is over.
   pub turns : (past : List Input) (i : Input) (future : List Input) → (after (fresh limit) past) .wave ≡ 0
       → let b = next (after (fresh limit) past) i in Turns limit (b .wave) (overIn b future) (served b future)
-  -- The wave is over within the longest pause, 257 cycles, for each START that its members may make after it has formed.
+  -- The wave is over within the longest pause (`pauseMost`) for each START that its members may make after it has formed.
   pub ends : (past future : List Input)
       → let b = after (fresh limit) past in pauseMost * (limit * card (b .wave)) ≤ length future → overIn b future ≡ true
   -- A START comes only where no transfer was open before the cycle: never in the cycle of the ACK that ends one, but in a later one.
   pub alone : (past : List Input) (i : Input) (s : ℕ)
       → let b = after (fresh limit) past in startIn b i ≡ Slot s → b .transfer ≡ Idle
-  -- 3. While a wave has members, one of the next 257 cycles has a START, whatever came before;
+  -- 3. While a wave has members, one of the next 4,097 cycles (document 02, wish 5) has a START, whatever came before;
   pub starts : (past future : List Input) → ((after (fresh limit) past) .wave ≡ 0 → ⊥) → length future ≡ pauseMost
       → 0 < length (starters (after (fresh limit) past) future)
-  -- so the next START comes at most 257 cycles after the last one (in cycle i), if that has left members;
+  -- so the next START comes at most so many cycles after the last one (in cycle i), if that has left members;
   pub startsAgain : (past : List Input) (i : Input) (future : List Input) (s : ℕ)
       → let b = next (after (fresh limit) past) i in
       startIn (after (fresh limit) past) i ≡ Slot s → (b .wave ≡ 0 → ⊥) → length future ≡ pauseMost → 0 < length (starters b future)
-  -- and at most 257 cycles after the wave has formed (in cycle i).
+  -- and at most so many after the wave has formed (in cycle i).
   pub startsFirst : (past : List Input) (i : Input) (future : List Input)
       → let b = next (after (fresh limit) past) i in
       (after (fresh limit) past) .wave ≡ 0 → (b .wave ≡ 0 → ⊥) → length future ≡ pauseMost → 0 < length (starters b future)
@@ -54,6 +54,6 @@ pub record Demand3 (limit : ℕ) : Type 0 where
   -- so at most 30 times the limit;
   pub share : (past future : List Input) (m : ℕ) → m < 16 → Asks m (after (fresh limit) past) future
       → ahead m (starters (after (fresh limit) past) future) ≤ 30 * limit
-  -- and its own START does come: within 257 cycles for each of these 30 - m times the limit and for its own, and one cycle more where m is over 0.
+  -- and its own START does come: within the longest pause for each of these 30 - m times the limit and for its own, and one cycle more where m is over 0.
   pub own : (past future : List Input) (m : ℕ) → m < 16 → Asks m (after (fresh limit) past) future
       → cyclesMost limit m ≤ length future → 0 < count m (starters (after (fresh limit) past) future)

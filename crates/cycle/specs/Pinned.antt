@@ -1,18 +1,20 @@
 -- What demand 3's proof by itself does not hold fast, said where a reader sees it, of every bus and every input: the full strength of two of
--- demand 3's words (a weaker word would promise less), and three answers that are not about who starts. Proved in proofs/Asking.antt and Replies.antt.
-use Prim.Native.Nat.{ℕ, _<_}
+-- demand 3's words (a weaker word would promise less), and five answers that are not about who starts. Proved in proofs/Asking.antt and Replies.antt.
+use Prim.Native.Nat.{ℕ, _+_, _-_, _<_, _≤_}
 use mathlib.Core.Path.{_≡_}
 use mathlib.Core.Bool.{true, false}
 use mathlib.Core.List.{List, [], _∷_, _++_}
 use mathlib.Core.Logic.{_⊎_}
 use lib.ListN.{getD}
 use Rattle.codes.specs.declared.Status.{Status}
+use Rattle.codes.specs.declared.Status.the-variants.{Timeout}
 use Rattle.cycle.specs.declared.Bus.{Bus}
-use Rattle.cycle.specs.declared.Event.the-variants.{Nothing, Finish}
+use Rattle.cycle.specs.declared.Event.the-variants.{Nothing, Strobe, Finish}
 use Rattle.cycle.specs.declared.Owner.the-variants.{Nobody, Slot}
 use Rattle.cycle.specs.declared.Transfer.the-variants.{Idle, Open}
 use Rattle.cycle.specs.declared.Ending.the-variants.{Unended, Ended}
-use Rattle.cycle.specs.declared.Note.the-variants.{Stray}
+use Rattle.cycle.specs.declared.Note.the-variants.{Clear, Stray}
+use Rattle.basics.specs.Numbers.{watchdog}
 use Rattle.cycle.specs.Nodes.{blank}
 use Rattle.cycle.specs.Runs.{Input, cycleIn, next, after, startIn, count, oneTurn, Asks}
 
@@ -40,3 +42,10 @@ pub record Answers (b : Bus) (i : Input) : Type 0 where
   -- "A finish gives ACK and idles it": with its own status, whatever the age, in the watchdog's cycle too
   pub finish : (owed age : ℕ) (s : Status) → b .transfer ≡ Open owed age → i .event ≡ Finish s
       → let r = (cycleIn b i) .reply in (r .ack ≡ true) × (r .status ≡ Ended s) × ((next b i) .transfer ≡ Idle)
+  -- document 02, wish 5: "The age returns to 0 with each strobe that takes an owed word .. a strobe in the 256th cycle is taken before the timer
+  -- fires": whatever the age
+  pub word : (owed age : ℕ) → b .transfer ≡ Open owed age → 1 < owed → i .event ≡ Strobe
+      → let r = (cycleIn b i) .reply in (r .ack ≡ false) × (r .note ≡ Clear) × ((next b i) .transfer ≡ Open (owed - 1) 0)
+  -- "Strobes that are extra restart nothing": in the 256th cycle the timer fires, as it does where nothing comes, and no strobe is noted
+  pub timer : (owed age : ℕ) → b .transfer ≡ Open owed age → age + 1 ≡ watchdog → (i .event ≡ Nothing) ⊎ ((i .event ≡ Strobe) × (owed ≤ 1))
+      → let r = (cycleIn b i) .reply in (r .ack ≡ true) × (r .status ≡ Ended Timeout) × (r .note ≡ Clear) × ((next b i) .transfer ≡ Idle)

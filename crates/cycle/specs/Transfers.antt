@@ -1,7 +1,9 @@
 -- What becomes of the transfer in a cycle. Document 01: "A transfer open before ages by 1. A finish gives ACK and idles it; success with more than
 -- one word owed is noted as short. At age 256 without a finish the watchdog gives ACK with timeout, and a strobe then is neither taken nor
 -- noted. Otherwise a strobe takes one owed word if more than one is owed, else it is noted as extra. An event with nothing open before is
--- noted as stray and drives no line."
+-- noted as stray and drives no line." Document 02, wish 5, changes what a strobe does that takes an owed word: "The age returns to 0 with each
+-- strobe that takes an owed word .. and a strobe in the 256th cycle is taken before the timer fires. A finish still wins over both. Strobes
+-- that are extra restart nothing."
 use Prim.Native.Nat.{ℕ, _+_, _-_}
 use mathlib.Core.Bool.{Bool, true, false, cond}
 use mathlib.Core.List.{List}
@@ -65,15 +67,23 @@ timedOut = record { transfer = Idle; ack = true; status = Ended Timeout; note = 
 abbrev pub aged : ℕ → ℕ → Note → Progress
 aged owed age note = record { transfer = Open owed (ageOf age); ack = false; status = Unended; note = note }
 
--- "a strobe takes one owed word if more than one is owed, else it is noted as extra"
+-- without a finish, and with no word taken: "At age 256 .. the watchdog gives ACK with timeout", with no note; else it goes on
+unfoldable pub watched : ℕ → ℕ → Note → Progress
+watched owed age note = cond (expires age) timedOut (aged owed age note)
+
+-- "a strobe takes one owed word", and "The age returns to 0"
+abbrev pub taken : ℕ → Progress
+taken owed = record { transfer = Open (owed - 1) 0; ack = false; status = Unended; note = Clear }
+
+-- "a strobe takes one owed word if more than one is owed", at whatever age, "else it is noted as extra"
 unfoldable pub struck : ℕ → ℕ → Progress
-struck owed age = cond (ltb 1 owed) (aged (owed - 1) age Clear) (aged owed age Extra)
+struck owed age = cond (ltb 1 owed) (taken owed) (watched owed age Extra)
 
 -- a transfer open before
 unfoldable pub goingOn : Event → ℕ → ℕ → Progress
 goingOn (Finish s) owed age = finished s owed
-goingOn Strobe owed age = cond (expires age) timedOut (struck owed age)
-goingOn Nothing owed age = cond (expires age) timedOut (aged owed age Clear)
+goingOn Strobe owed age = struck owed age
+goingOn Nothing owed age = watched owed age Clear
 
 -- the transfer t before, the event e and the starter s of the cycle
 unfoldable pub progressOf : Transfer → Event → Owner → ℕ → List ℕ → Progress

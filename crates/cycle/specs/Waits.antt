@@ -1,10 +1,10 @@
 -- The numbers of demand 3: the longest pause between STARTs, and what a master waits for that asks and goes on asking until it starts.
 use Prim.Native.Nat.{ℕ, _+_, _-_, _*_, min}
-use Rattle.basics.specs.Numbers.{watchdog}
+use Rattle.basics.specs.Numbers.{transferMost}
 
--- while a wave has members a START comes at most so many cycles after the last one: in the cycle behind the watchdog's ACK, 257
+-- while a wave has members a START comes at most so many cycles after the last one: in the cycle behind the ACK of the longest transfer, 4,097
 abbrev pub pauseMost : ℕ
-pauseMost = watchdog + 1
+pauseMost = transferMost + 1
 
 -- the STARTs of others that a master in slot m sees in waves before its own: 30 - m times the limit
 abbrev pub turnsMost : ℕ → ℕ → ℕ

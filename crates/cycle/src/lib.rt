@@ -111,8 +111,10 @@ impl Bus {
     pub const SLOTS: u8 = 16;
 
     pub const LIMIT_MOST: u8 = 16;
-    // A transfer's age at which the watchdog ends it (001, 2.6.4).
+    // A transfer's age at which the watchdog ends it; the age restarts with each word (001, 2.6).
     pub const WATCHDOG: u16 = 256;
+    // The words of the largest block (001, table 2.3).
+    pub const WORDS_MOST: u8 = 16;
 
     // Empty, idle and without an owner.
     pub fn fresh(limit: u8) -> Fresh

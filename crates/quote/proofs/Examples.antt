@@ -3,11 +3,11 @@ use mathlib.Core.Path.{_≡_, refl}
 use Rattle.basics.specs.Answers.{accepted, refused}
 use Rattle.quote.specs.Quotes.{worstOf, noWorst, quoteOf}
 
-slot0-limit16 : quoteOf 0 16 ≡ accepted (record { others = 480; cycles = 123617 })
+slot0-limit16 : quoteOf 0 16 ≡ accepted (record { others = 480; cycles = 1970657 })
 unfolding quoteOf worstOf
 slot0-limit16 = refl
 
-slot15-limit1 : quoteOf 15 1 ≡ accepted (record { others = 16; cycles = 4113 })
+slot15-limit1 : quoteOf 15 1 ≡ accepted (record { others = 16; cycles = 65553 })
 unfolding quoteOf worstOf
 slot15-limit1 = refl
 

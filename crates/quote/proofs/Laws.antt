@@ -1,13 +1,13 @@
 -- Laws of the two numbers and of the answer. Assumes nothing.
 use Prim.Native.Nat.{ℕ, _+_, _-_, _*_, _<_, _≤_, min}
 use mathlib.Core.Bool.{true, false}
-use mathlib.Core.Path.{_≡_, refl, sym, ap, _∙_}
+use mathlib.Core.Path.{_≡_, sym, ap, _∙_}
 use native.Mathlib.Omega.{arith}
 use native.Mathlib.Nat.{mul-le-mul-left}
 use lib.Dec.{leb}
 use borrow.Author.Tests.{lt-ltb, le-ltb, leb-true}
 use Rattle.basics.specs.Numbers.{lawfulLimit}
-use Rattle.basics.specs.Answers.{Answer, accepted, refused}
+use Rattle.basics.specs.Answers.{accepted, refused}
 use Rattle.basics.proofs.Bools.{and-both, cond-true, cond-false}
 use Rattle.cycle.specs.Waits.{pauseMost, turnsMost}
 use Rattle.quote.specs.declared.Worst.{Worst}

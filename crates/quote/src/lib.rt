@@ -21,8 +21,9 @@ pub enum Quote {
     BadLimit,
 }
 
-// While a wave has members, the next START comes at most so many cycles after the last: in the cycle behind the watchdog's ACK.
-const PAUSE: u32 = Bus::WATCHDOG as u32 + 1;
+// While a wave has members, the next START comes at most so many cycles after the last: the watchdog's for each word (document 02, wish 5), and in
+// the cycle behind the ACK.
+const PAUSE: u32 = Bus::WATCHDOG as u32 * Bus::WORDS_MOST as u32 + 1;
 
 // The STARTs of others in waves.
 fn turns(slot: u8, limit: u8) -> u32

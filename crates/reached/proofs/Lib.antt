@@ -1,2 +1,9 @@
+pub mod Inputs
+pub mod Slowest
+pub mod Waves
+pub mod Due
+pub mod Falls
+pub mod Onward
+pub mod Begins
 pub mod Reached
 pub mod Cases

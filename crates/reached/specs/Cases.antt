@@ -13,7 +13,7 @@ use Rattle.cycle.specs.declared.Event.{Event}
 use Rattle.cycle.specs.declared.Event.the-variants.{Nothing, Strobe, Finish}
 use Rattle.cycle.specs.declared.Owner.the-variants.{Nobody, Slot}
 use Rattle.cycle.specs.declared.Ending.the-variants.{Unended, Ended}
-use Rattle.cycle.specs.declared.Note.the-variants.{Clear, Stray}
+use Rattle.cycle.specs.declared.Note.the-variants.{Clear, Extra, Stray}
 use Rattle.cycle.specs.Bounds.{lawfulWord, lawfulBelow}
 use Rattle.cycle.specs.Nodes.{blank, addOf, gathered, setsOf}
 use Rattle.cycle.specs.Runs.{Input, cycleIn, next}
@@ -23,9 +23,12 @@ unfoldable pub repliesOf : Bus → List Input → List Reply
 repliesOf b [] = []
 repliesOf b (i ∷ is) = (cycleIn b i) .reply ∷ repliesOf (next b i) is
 
--- a node that wants the bus for one word, one that wants it for none, and one that holds it too
+-- a node that wants the bus for one word, one that wants it for two, one that wants it for none, and one that holds it too
 abbrev pub asker : Node
 asker = record { wants = true; holds = false; words = 1 }
+
+abbrev pub pairAsker : Node
+pairAsker = record { wants = true; holds = false; words = 2 }
 
 abbrev pub attender : Node
 attender = record { wants = true; holds = false; words = 0 }
@@ -40,13 +43,16 @@ single s n = set (replicate 16 blank) s n
 abbrev pub two : ℕ → Node → ℕ → Node → List Node
 two s n t o = set (single s n) t o
 
--- a cycle in which nobody starts and nothing ends, the same with a stray event; one with a START, and one with an attention cycle; and one with an ACK.
--- The first line is RQST.
+-- a cycle in which nobody starts and nothing ends, the same with a stray event, and with an extra strobe; one with a START, and one with an
+-- attention cycle; and one with an ACK. The first line is RQST.
 abbrev pub quiet : Bool → Reply
 quiet rqst = record { rqst = rqst; start = false; ack = false; starter = Nobody; status = Unended; note = Clear }
 
 abbrev pub stray : Bool → Reply
 stray rqst = record { rqst = rqst; start = false; ack = false; starter = Nobody; status = Unended; note = Stray }
+
+abbrev pub extra : Bool → Reply
+extra rqst = record { rqst = rqst; start = false; ack = false; starter = Nobody; status = Unended; note = Extra }
 
 abbrev pub start : Bool → ℕ → Reply
 start rqst s = record { rqst = rqst; start = true; ack = false; starter = Slot s; status = Unended; note = Clear }
@@ -136,3 +142,45 @@ lateInputs =
 -- "A finish gives ACK and idles it": the watchdog's is "At age 256 without a finish"
 unfoldable pub lateReplies : List Reply
 lateReplies = quiet true ∷ quiet true ∷ start false 5 ∷ replicate 255 (quiet false) ++ (ended false Success ∷ [])
+
+-- ---- document 02, wish 5: "The watchdog restarts with each word."
+
+-- START in 3, two words: a strobe in 259, the 256th cycle after START, then no event
+unfoldable pub wordInputs : List Input
+unfolding lawfulBelow lawfulWord setsOf gathered addOf
+wordInputs =
+    replicate 3 (given Nothing (single 5 pairAsker) refl refl)
+    ++ replicate 255 (given Nothing (replicate 16 blank) refl refl)
+    ++ (given Strobe (replicate 16 blank) refl refl ∷ [])
+    ++ replicate 256 (given Nothing (replicate 16 blank) refl refl)
+
+-- "The age returns to 0 with each strobe that takes an owed word .. and a strobe in the 256th cycle is taken before the timer fires.": so the
+-- timeout ACK comes in 515, and no other
+unfoldable pub wordReplies : List Reply
+wordReplies = quiet true ∷ quiet true ∷ start false 5 ∷ replicate 511 (quiet false) ++ (ended false Timeout ∷ [])
+
+-- P8 with a strobe in 4 and one in 259, where one word is owed
+unfoldable pub extraInputs : List Input
+unfolding lawfulBelow lawfulWord setsOf gathered addOf
+extraInputs =
+    replicate 3 (given Nothing (single 5 asker) refl refl)
+    ++ (given Strobe (replicate 16 blank) refl refl ∷ [])
+    ++ replicate 254 (given Nothing (replicate 16 blank) refl refl)
+    ++ (given Strobe (replicate 16 blank) refl refl ∷ [])
+
+-- "Strobes that are extra restart nothing.": the timeout ACK comes in 259 all the same, where the strobe isn't noted
+unfoldable pub extraReplies : List Reply
+extraReplies = quiet true ∷ quiet true ∷ start false 5 ∷ extra false ∷ replicate 254 (quiet false) ++ (ended false Timeout ∷ [])
+
+-- two words: a strobe in 4, and a finish in 260, the 256th cycle after it
+unfoldable pub finishInputs : List Input
+unfolding lawfulBelow lawfulWord setsOf gathered addOf
+finishInputs =
+    replicate 3 (given Nothing (single 5 pairAsker) refl refl)
+    ++ (given Strobe (replicate 16 blank) refl refl ∷ [])
+    ++ replicate 255 (given Nothing (replicate 16 blank) refl refl)
+    ++ (given (Finish Success) (replicate 16 blank) refl refl ∷ [])
+
+-- "A finish still wins over both."
+unfoldable pub finishReplies : List Reply
+finishReplies = quiet true ∷ quiet true ∷ start false 5 ∷ replicate 256 (quiet false) ++ (ended false Success ∷ [])

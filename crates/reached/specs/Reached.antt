@@ -1,4 +1,5 @@
--- What it means that a run reaches a number of demand 3: the number can't be smaller.
+-- What it means that a run reaches a number of demand 3: the number can't be smaller. Each is reached at every hold limit, and by every slot
+-- (proofs/Reached.antt).
 use Prim.Native.Nat.{ℕ, _+_, _*_}
 use mathlib.Core.Path.{_≡_}
 use mathlib.Core.Bool.{false}

@@ -1,2 +1,2 @@
-// Runs of the bus that reach the numbers of demand 3: a crate of theorems alone (specs/Reached.antt says what is reached, proofs/Reached.antt
-// has the runs), apart from `cycle` so that computing thousands of cycles is done once and not with every edit there.
+// Runs of the bus that reach the numbers of demand 3: a crate of theorems alone (specs/Reached.antt says what is reached, proofs/Slowest.antt builds
+// the run, proofs/Reached.antt has the theorems), and the worked cases of the bus (specs/Cases.antt), by computing.

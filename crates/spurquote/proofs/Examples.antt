@@ -26,11 +26,11 @@ unfolding askedOf numberOf isNumber capped
 large-read = refl
 
 -- ---- lines
-slot0-printed : quoteLine 0 16 ≡ word "slot 0 limit 16 others 480 cycles 123617 seconds 0.0123617\n"
+slot0-printed : quoteLine 0 16 ≡ word "slot 0 limit 16 others 480 cycles 1970657 seconds 0.1970657\n"
 unfolding answerLine worstLine quoteOf worstOf secondsOf decimalOf spelled
 slot0-printed = refl
 
-slot15-printed : quoteLine 15 1 ≡ word "slot 15 limit 1 others 16 cycles 4113 seconds 0.0004113\n"
+slot15-printed : quoteLine 15 1 ≡ word "slot 15 limit 1 others 16 cycles 65553 seconds 0.0065553\n"
 unfolding answerLine worstLine quoteOf worstOf secondsOf decimalOf spelled
 slot15-printed = refl
 
