@@ -9,6 +9,7 @@ use lib.ListN.{length, take, drop, getD, set}
 use lib.Seq.{set-getD}
 use borrow.Author.Tests.{eqb-true, eqb-false, eq-eqb, ne-eqb}
 use Rattle.basics.specs.Lines.{one}
+use Rattle.basics.specs.Numbers.{transferMost}
 use Rattle.basics.proofs.Bools.{by-test, cond-true, cond-false, choice}
 use Rattle.record.specs.declared.Record.{Record}
 use Rattle.record.specs.Digits.{number}
@@ -106,9 +107,9 @@ abbrev pub Apart : Watch → Judge → ℕ → Type 0
 Apart w j stamp = diffOf j stamp ≡ difference (w .stamp) stamp
 
 -- ---- transfers
-busy-most : (t : Transfer) → SoundTransfer t → openBusy t ≤ 257
+busy-most : (t : Transfer) → SoundTransfer t → openBusy t ≤ transferMost + 1
 busy-most Idle h = omega arith
-busy-most (Open words strobes age busy) h = omega (arith, h .young, h .spent)
+busy-most (Open words strobes age busy) h = omega (arith, h .high, h .few, h .young, h .spent)
 
 busy-open : (t : Transfer) (d : ℕ) → isOpen t ≡ true → busyTo t d ≡ openBusy t + d
 busy-open Idle d e = absurd (false≢true e)

@@ -16,7 +16,14 @@ use rules::Tally;
 use rules::Transfer;
 use rules::Wave;
 
-// A transfer that stays open ages by the cycles since the last record, is busy in them, and counts a strobe.
+// The age returns to 0 with each strobe of a block (02, wish 5).
+fn age_after(strobe: bool, age: u32) -> u32
+    ensures { λ r. ⌜ (r ≡ cond strobe 0 age) × (r ≤ age) ⌝ }
+{
+    if strobe { 0 } else { age }
+}
+
+// A transfer that stays open ages by the cycles since the last record, is busy in them, and counts a strobe, which restarts the age.
 pub(crate) fn aged(transfer: Transfer, lines: Record, d: u32) -> Transfer
     requires { ⌜ SoundTransfer transfer × (rule12 (isOpen transfer) (openAge transfer) d ≡ true) ⌝ }
     ensures { λ r. ⌜ r ≡ agedOf transfer (lines .start) (lines .ack) (lines .tm0) d ⌝ }
@@ -31,7 +38,7 @@ pub(crate) fn aged(transfer: Transfer, lines: Record, d: u32) -> Transfer
         } => {
             let counts = (1 < words) & lines.tm0 & !lines.start & !lines.ack;
             let with = strobes + basics::one_if(counts);
-            let older = age as u32 + d;
+            let older = age_after(counts, age as u32 + d);
             let longer = busy + d;
             Transfer::Open {
                 words: words,

@@ -21,7 +21,7 @@ fn transfer_in_bounds(transfer: Transfer) -> bool
                 & (words <= 16)
                 & (strobes < words)
                 & (age <= Judge::WATCHDOG)
-                & (busy <= age as u32 + 1)
+                & (busy <= Judge::WATCHDOG as u32 * strobes as u32 + age as u32 + 1)
         }
     }
 }

@@ -21,7 +21,8 @@ each-rule =
           (case refl refl (case refl refl (case refl refl (case refl refl (case refl refl (case refl refl
           (case refl refl (case refl refl (case refl refl (case refl refl (case refl refl (case refl refl
           (case refl refl (case refl refl (case refl refl (case refl refl (case refl refl (case refl refl
-          (case refl refl (case refl refl (case refl refl none))))))))))))))))))))))))))))))));
+          (case refl refl (case refl refl (case refl refl (case refl refl (case refl refl (case refl refl
+          (case refl refl none))))))))))))))))))))))))))))))))))));
       all = refl;
       p6 = refl;
       first = refl;

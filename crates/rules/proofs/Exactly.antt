@@ -132,21 +132,23 @@ reached-exact limit r n p h = by-end (h .ends)
         (subst (λ i. FirstBreach limit r n (record { rule = p .rule; kind = p .kind; place = i; span = p .span })) (sym (h .before .totals .records)) (record { within = e .1; before = h .before .good; lowest = e .2; span = e .3 }))
         (h .before .totals .records))
 
--- ---- no START of a wave is passed over
--- rules 8, 10 and 11 speak of the wave that began at some record: where the records before keep all rules, and RQST is active one cycle before,
--- there is one
-pub wave-there : (limit : ℕ) (bytes : List ℕ) (i : ℕ) → 1 ≤ limit → limit ≤ 16 → ((m : ℕ) → m < i → Keeps limit (recordingIn bytes) m) → Rule2 (recordingIn bytes .lines) i → Asked (recordingIn bytes .lines) i 1 → (b : ℕ) × Began (recordingIn bytes .lines) i b
-wave-there limit bytes i low high keeps r2 = go (reached limit bytes i low high)
+-- ---- where the records before keep all rules
+-- the judge comes to record i
+pub comes-to : (limit : ℕ) (bytes : List ℕ) (i : ℕ) → 1 ≤ limit → limit ≤ 16 → ((m : ℕ) → m < i → Keeps limit (recordingIn bytes) m) → (j : Judge) × JudgeIs limit (recordingIn bytes .lines) i j
+comes-to limit bytes i low high keeps = go (reached limit bytes i low high)
   where
     r : Recording
     r = recordingIn bytes
 
-    at : (j : Judge) → JudgeIs limit (r .lines) i j → Asked (r .lines) i 1 → (b : ℕ) × Began (r .lines) i b
-    at j h = asked-began (r .lines) i (j .wave) (forward-to limit (r .lines) i j h r2) (h .wave)
-
-    go : {p : Progress} → Reached limit r i p → Asked (r .lines) i 1 → (b : ℕ) × Began (r .lines) i b
+    go : {p : Progress} → Reached limit r i p → (j : Judge) × JudgeIs limit (r .lines) i j
     go {p} h = by-end (h .ends)
       where
-        by-end : Ended limit r i p (h .place) → Asked (r .lines) i 1 → (b : ℕ) × Began (r .lines) i b
-        by-end (inl e) = at (p .judge) (subst (λ k. JudgeIs limit (r .lines) k (p .judge)) (e .1) (h .before .judge))
+        by-end : Ended limit r i p (h .place) → (j : Judge) × JudgeIs limit (r .lines) i j
+        by-end (inl e) = (p .judge, subst (λ k. JudgeIs limit (r .lines) k (p .judge)) (e .1) (h .before .judge))
         by-end (inr e) = absurd (kept-not (rules limit r (h .place)) (ruleIn (brokenBy p)) (keeps (h .place) (e .1)) (e .2))
+
+-- no START of a wave is passed over: rules 8, 10 and 11 speak of the wave that began at some record, and where RQST is active one cycle before, there is one
+pub wave-there : (limit : ℕ) (bytes : List ℕ) (i : ℕ) → 1 ≤ limit → limit ≤ 16 → ((m : ℕ) → m < i → Keeps limit (recordingIn bytes) m) → Rule2 (recordingIn bytes .lines) i → Asked (recordingIn bytes .lines) i 1 → (b : ℕ) × Began (recordingIn bytes .lines) i b
+wave-there limit bytes i low high keeps r2 =
+    let x = comes-to limit bytes i low high keeps in
+    asked-began (recordingIn bytes .lines) i (x .0 .wave) (forward-to limit (recordingIn bytes .lines) i (x .0) (x .1) r2) (x .1 .wave)

@@ -1,8 +1,8 @@
 -- The transfer that the judge implying is the one that the recording has open, and rules 4, 5, 12 and 13 are exact. Assumes nothing.
 use Prim.Native.Nat.{ℕ, suc, _+_, _≤_, _<_}
-use mathlib.Core.Bool.{Bool, true, false, not, _&&_, false≢true, and-false}
+use mathlib.Core.Bool.{Bool, true, false, cond, not, _&&_, false≢true, and-false}
 use mathlib.Core.Path.{_≡_, refl, sym, ap, subst, _∙_}
-use mathlib.Core.Logic.{_↔_}
+use mathlib.Core.Logic.{_↔_, _⊎_, inl, inr}
 use native.Mathlib.Omega.{arith}
 use lib.Dec.{ltb, eqb}
 use borrow.Author.Tests.{ltb-true, lt-ltb, le-ltb, leb-true, le-leb, eqb-true, eq-eqb}
@@ -18,7 +18,7 @@ use Rattle.codes.proofs.OwedLaws.{owed-unit, accepted-owed, some-accepted}
 use Rattle.rules.specs.Rules.{strobe, rule4, rule5, rule7, rule12, rule13, rule13a, rule13b}
 use Rattle.rules.specs.State.{isOpen, openWords, openStrobes, openAge, agedOf, transferOf}
 use Rattle.rules.specs.Bounds.{SoundTransfer}
-use Rattle.rules.specs.Recording.{Lines, gap, cycle, count, Opened, wordsAt, strobeOf}
+use Rattle.rules.specs.Recording.{Lines, gap, cycle, count, Opened, wordsAt, strobeOf, AgesFrom}
 use Rattle.rules.specs.Thirteen.{Rule4, Rule5, Rule7, Rule12, Rule13, Rule13a, Rule13b}
 use Rattle.rules.proofs.Places.{below, same-place, more, less, alone, count-none, clash, and-pair, itself, off-iff, and-iff, both-imply-iff}
 
@@ -76,7 +76,9 @@ pub record HeldBy (r : Lines) (i k words strobes age busy : ℕ) : Type 0 where
   pub since : Opened r i k
   pub same : words ≡ wordsAt r k
   pub seen : strobes ≡ count (strobeOf r k) i
-  pub aged : cycle r k + age + gap r i ≡ cycle r i
+  pub word : ℕ
+  pub from : AgesFrom r i k word
+  pub aged : cycle r word + age + gap r i ≡ cycle r i
   pub spent : cycle r k + busy + gap r i ≡ cycle r i + 1
 
 abbrev pub Held : Lines → ℕ → Transfer → Type 0
@@ -94,12 +96,21 @@ held-acked : (r : Lines) (i : ℕ) → r i .ack ≡ true → Held r (suc i) Idle
 held-acked r i e k o =
     below k i (o .earlier) (λ lt. clash e (o .unanswered i lt (omega arith))) (λ q. clash e (subst (λ m. r m .ack ≡ false) q (o .lasts)))
 
+-- a strobe stands behind its transfer's START
+strobe-behind : (r : Lines) (k m : ℕ) → strobeOf r k m ≡ true → ltb k m ≡ true
+strobe-behind r k m e = and-first (ltb k m) _ (and-first _ _ (and-first _ _ (and-first _ _ e)))
+  where
+    and-first : (a b : Bool) → (a && b) ≡ true → a ≡ true
+    and-first a b x = and-both a b x .0
+
 held-started : (r : Lines) (i : ℕ) → r i .reset ≡ false → r i .start ≡ true → r i .ack ≡ false → Rule7 r i → HeldBy r (suc i) i (wordsOf (r i .tm0) (r i .ad)) 0 0 1
 held-started r i nr s na r7 =
     record {
       since = opened-now r i nr s na;
       same = words-exact r i (r7 s na);
       seen = sym (count-none (strobeOf r i) (suc i) (λ m lt. rw (le-ltb i m (let z : m ≤ i = omega arith in z))));
+      word = i;
+      from = record { earlier = omega arith; word = inl refl; last = λ n gt lt. absurd (omega arith) };
       aged = omega arith;
       spent = omega arith;
     }
@@ -108,18 +119,38 @@ held-started r i nr s na r7 =
 strobe-now : (r : Lines) (i k w : ℕ) → k < i → w ≡ wordsAt r k → strobeOf r k i ≡ strobe w (r i .start) (r i .ack) (r i .tm0)
 strobe-now r i k w lt e = rw (lt-ltb k i lt, e)
 
+-- record i is a strobe, from which the age counts behind it; or it is none, and the age goes on
+record Aging (r : Lines) (i k age : ℕ) : Type 0 where
+  word : ℕ
+  from : AgesFrom r (suc i) k word
+  aged : cycle r word + age ≡ cycle r i
+
+aging : (r : Lines) (i k m a : ℕ) → AgesFrom r i k m → cycle r m + a + gap r i ≡ cycle r i → (s : Bool) → s ≡ strobeOf r k i → Aging r i k (cond s 0 (a + gap r i))
+aging r i k m a f e true q =
+    record { word = i; from = record { earlier = omega arith; word = inr (sym q); last = λ n gt lt. absurd (omega arith) }; aged = omega arith }
+aging r i k m a f e false q =
+    record {
+      word = m;
+      from = record { earlier = omega (arith, f .earlier); word = f .word; last = more (λ n. strobeOf r k n ≡ false) (suc m) i (f .last) (sym q) };
+      aged = omega (arith, e);
+    }
+
 held-aged : (r : Lines) (i : ℕ) (t : Transfer) → Held r i t → r i .reset ≡ false → r i .start ≡ false → r i .ack ≡ false → Held r (suc i) (agedOf t (r i .start) (r i .ack) (r i .tm0) (gap r i))
 held-aged r i Idle h nr ns na = λ k o.
     below k i (o .earlier) (λ lt. h k (opened-before r i k o lt)) (λ q. clash (subst (λ m. r m .start ≡ true) q (o .starts)) ns)
 held-aged r i (Open w s a b) (k, h) nr ns na = (
   k,
-  record {
-    since = opened-next r i k (h .since) nr ns na;
-    same = h .same;
-    seen = ap (λ x. x + one (strobe w (r i .start) (r i .ack) (r i .tm0))) (h .seen) ∙ ap (λ x. count (strobeOf r k) i + one x) (sym (strobe-now r i k w (h .since .earlier) (h .same)));
-    aged = omega (arith, h .aged);
-    spent = omega (arith, h .spent);
-  },
+  let now = sym (strobe-now r i k w (h .since .earlier) (h .same)) in
+      let age = aging r i k (h .word) a (h .from) (h .aged) (strobe w (r i .start) (r i .ack) (r i .tm0)) now in
+      record {
+        since = opened-next r i k (h .since) nr ns na;
+        same = h .same;
+        seen = ap (λ x. x + one (strobe w (r i .start) (r i .ack) (r i .tm0))) (h .seen) ∙ ap (λ x. count (strobeOf r k) i + one x) now;
+        word = age .word;
+        from = age .from;
+        aged = omega (arith, age .aged);
+        spent = omega (arith, h .spent);
+      },
 )
 
 pub held-next : (r : Lines) (i : ℕ) (t : Transfer) → Held r i t → r i .reset ≡ false → Rule7 r i → Held r (suc i) (transferOf t (r i .start) (r i .ack) (r i .tm0) (wordsOf (r i .tm0) (r i .ad)) (gap r i))
@@ -145,14 +176,30 @@ pub rule7-exact : (r : Lines) (i : ℕ) → (rule7 (r i .start) (r i .ack) (word
 rule7-exact r i =
     both-imply-iff (r i .start) (not (r i .ack)) (ltb 0 (wordsOf (r i .tm0) (r i .ad))) (itself (r i .start)) (off-iff (r i .ack)) (λ _ _. meaning-exact (r i .tm1) (r i .tm0) (r i .ad))
 
+-- the age counts from one record alone
+pub ages-only : (r : Lines) (i k m n : ℕ) → AgesFrom r i k m → AgesFrom r i k n → m ≡ n
+ages-only r i k m n f g = same-place m n (λ lt. later m n f g lt) (λ lt. later n m g f lt)
+  where
+    -- one behind the last would be the START itself, or a strobe
+    later : (m n : ℕ) → AgesFrom r i k m → AgesFrom r i k n → m < n → ⊥
+    later m n f g lt = on (g .word)
+      where
+        after : (x : (m ≡ k) ⊎ (strobeOf r k m ≡ true)) → k ≤ m
+        after (inl e) = omega arith
+        after (inr e) = let z = ltb-true k m (strobe-behind r k m e) in omega arith
+
+        on : (n ≡ k) ⊎ (strobeOf r k n ≡ true) → ⊥
+        on (inl e) = omega (arith, after (f .word))
+        on (inr e) = clash e (f .last n lt (g .earlier))
+
 pub rule12-exact : (r : Lines) (i : ℕ) (t : Transfer) → Held r i t → (rule12 (isOpen t) (openAge t) (gap r i) ≡ true) ↔ Rule12 r i
-rule12-exact r i Idle h = (λ e k o. absurd (h k o), λ f. refl)
+rule12-exact r i Idle h = (λ e k m o f. absurd (h k o), λ f. refl)
 rule12-exact r i (Open w s a b) (k, h) = (
-  λ e n o.
+  λ e n m o f.
       let x = leb-true (a + gap r i) watchdog e in
-      let y : cycle r i ≤ cycle r k + watchdog = omega (arith, h .aged) in
-      subst (λ m. cycle r i ≤ cycle r m + watchdog) (opened-only r i k n (h .since) o) y,
-  λ f. let x = f k (h .since) in le-leb (a + gap r i) watchdog (omega (arith, h .aged)),
+      let y : cycle r i ≤ cycle r (h .word) + watchdog = omega (arith, h .aged) in
+      subst (λ m. cycle r i ≤ cycle r m + watchdog) (ages-only r i k (h .word) m (h .from) (subst (λ x. AgesFrom r i x m) (sym (opened-only r i k n (h .since) o)) f)) y,
+  λ f. let x = f k (h .word) (h .since) (h .from) in le-leb (a + gap r i) watchdog (omega (arith, h .aged)),
 )
 
 -- one strobe more, or none

@@ -31,7 +31,7 @@ use Rattle.codes.proofs.OwedLaws.{owed-most}
 use Rattle.rules.specs.Names.{only}
 use Rattle.rules.specs.Rules.{difference, strobe, rule1, rule2, rule7, rule9, rule10, rule11, rule12, rule13, rule13a, rule13b}
 use Rattle.rules.specs.State.{isOpen, openWords, openStrobes, openAge, agedOf, transferOf, askedOf, waveOf, freshJudge, diffOf, resetOf, movedOf, judgeOf, tallyOf}
-use Rattle.rules.specs.Bounds.{transferBounds, ownerBounds, judgeBounds, tallyBounds, SoundTransfer, SoundOwner, SoundJudge, SoundTally}
+use Rattle.rules.specs.Bounds.{transferBounds, ownerBounds, judgeBounds, tallyBounds, SoundOpen, SoundTransfer, SoundOwner, SoundJudge, SoundTally}
 use Rattle.rules.specs.Run.{Taken, takenIn, recordsIn, lowest, laterRules, ruleOf, from, broken, stepOf, nextOf, runOf}
 use Rattle.rules.specs.Verdict.{mostRecords, refusalOf, refusedBy, outcomeIn, outcomeOf}
 
@@ -188,16 +188,16 @@ run-parts p a b e =
 transfer-sound : (t : Transfer) → transferBounds t ≡ true → SoundTransfer t
 transfer-sound Idle e = tt
 transfer-sound (Open w s a b) e =
-    let o = and-both (leb 1 w && leb w 16 && ltb s w && leb a watchdog) (leb b (a + 1)) e in
+    let o = and-both (leb 1 w && leb w 16 && ltb s w && leb a watchdog) (leb b (watchdog * s + a + 1)) e in
     let p = and-both (leb 1 w && leb w 16 && ltb s w) (leb a watchdog) (o .0) in
     let q = and-both (leb 1 w && leb w 16) (ltb s w) (p .0) in
     let r = and-both (leb 1 w) (leb w 16) (q .0) in
-    record { low = leb-true 1 w (r .0); high = leb-true w 16 (r .1); few = ltb-true s w (q .1); young = leb-true a watchdog (p .1); spent = leb-true b (a + 1) (o .1) }
+    record { low = leb-true 1 w (r .0); high = leb-true w 16 (r .1); few = ltb-true s w (q .1); young = leb-true a watchdog (p .1); spent = leb-true b (watchdog * s + a + 1) (o .1) }
 
 sound-transfer : (t : Transfer) → SoundTransfer t → transferBounds t ≡ true
 sound-transfer Idle h = refl
 sound-transfer (Open w s a b) h =
-    both-and _ _ (both-and _ _ (both-and _ _ (both-and _ _ (le-leb 1 w (h .low)) (le-leb w 16 (h .high))) (lt-ltb s w (h .few))) (le-leb a watchdog (h .young))) (le-leb b (a + 1) (h .spent))
+    both-and _ _ (both-and _ _ (both-and _ _ (both-and _ _ (le-leb 1 w (h .low)) (le-leb w 16 (h .high))) (lt-ltb s w (h .few))) (le-leb a watchdog (h .young))) (le-leb b (watchdog * s + a + 1) (h .spent))
 
 owner-sound : (o : Owner) → ownerBounds o ≡ true → SoundOwner o
 owner-sound Nobody e = tt
@@ -261,17 +261,14 @@ sound-tally t h =
 aged-sound : (t : Transfer) (start ack tm1 tm0 : Bool) (d : ℕ) → SoundTransfer t → rule12 (isOpen t) (openAge t) d ≡ true → rule13 (isOpen t) (openWords t) (openStrobes t) start ack tm1 tm0 ≡ true → SoundTransfer (agedOf t start ack tm0 d)
 aged-sound Idle start ack tm1 tm0 d h r12 r13 = tt
 aged-sound (Open w s a b) start ack tm1 tm0 d h r12 r13 =
-    record {
-      low = h .low;
-      high = h .high;
-      few = few-more (strobe w start ack tm0) (h .few) (and-both (rule13a true w s start ack tm0) (rule13b true w s ack tm1 tm0) r13 .0);
-      young = leb-true (a + d) watchdog r12;
-      spent = omega (arith, h .spent);
-    }
+    struck (strobe w start ack tm0) (and-both (rule13a true w s start ack tm0) (rule13b true w s ack tm1 tm0) r13 .0)
   where
-    few-more : (b : Bool) → s < w → implies b (ltb (s + 1) w) ≡ true → s + one b < w
-    few-more true lt e = ltb-true (s + 1) w e
-    few-more false lt e = omega arith
+    old : a + d ≤ watchdog
+    old = leb-true (a + d) watchdog r12
+
+    struck : (x : Bool) → implies x (ltb (s + 1) w) ≡ true → SoundOpen w (s + one x) (cond x 0 (a + d)) (b + d)
+    struck true e = record { low = h .low; high = h .high; few = ltb-true (s + 1) w e; young = omega arith; spent = omega (arith, old, h .spent) }
+    struck false e = record { low = h .low; high = h .high; few = omega (arith, h .few); young = old; spent = omega (arith, h .spent) }
 
 transfer-kept : (t : Transfer) (start ack tm1 tm0 : Bool) (ad d : ℕ) → SoundTransfer t → rule7 start ack (wordsOf tm0 ad) ≡ true → rule12 (isOpen t) (openAge t) d ≡ true → rule13 (isOpen t) (openWords t) (openStrobes t) start ack tm1 tm0 ≡ true
     → SoundTransfer (transferOf t start ack tm0 (wordsOf tm0 ad) d)

@@ -5,6 +5,7 @@ pub mod Ride
 pub mod Step
 pub mod Reach
 pub mod Exactly
+pub mod Longest
 pub mod Parts
 pub mod Told
 pub mod OneKind

@@ -1,6 +1,7 @@
 -- Document 01, "Bounds for refusal 5: .. for the judge, limit 1 to 16, age at most 256, words 1 to 16, strobes below words, turn at most the
 -- limit, ARB at most 15; span at most 2^31 times records; starts, acks, aborted at most records." Of what document 02's wish 3 adds: an open transfer's
--- busy cycles are at most its age and one, and the owner's slot is at most 15. As tests and as facts.
+-- busy cycles are at most 256 for each strobe, its age and one (the watchdog restarts with each, by wish 5), and the owner's slot is at most 15. As tests
+-- and as facts.
 use Prim.Native.Nat.{ℕ, _+_, _*_, _^_, _≤_, _<_}
 use mathlib.Core.Bool.{Bool, true, _&&_}
 use lib.Dec.{leb, ltb}
@@ -16,7 +17,7 @@ use Rattle.basics.specs.Numbers.{watchdog, lawfulLimit}
 abbrev pub transferBounds : Transfer → Bool
 transferBounds Idle = true
 transferBounds (Open words strobes age busy) =
-    leb 1 words && leb words 16 && ltb strobes words && leb age watchdog && leb busy (age + 1)
+    leb 1 words && leb words 16 && ltb strobes words && leb age watchdog && leb busy (watchdog * strobes + age + 1)
 
 abbrev pub ownerBounds : Owner → Bool
 ownerBounds Nobody = true
@@ -43,7 +44,7 @@ pub record SoundOpen (words strobes age busy : ℕ) : Type 0 where
   pub high : words ≤ 16
   pub few : strobes < words
   pub young : age ≤ watchdog
-  pub spent : busy ≤ age + 1
+  pub spent : busy ≤ watchdog * strobes + age + 1
 
 abbrev pub SoundTransfer : Transfer → Type 0
 SoundTransfer Idle = Unit {0}

@@ -1,10 +1,11 @@
 -- For each of the thirteen rules, and each kind of rule 8, a recording, a few records long, that breaks it first, and a near twin that conforms: no
 -- rule is empty. Each recording is judged as bytes, from the start.
-use Prim.Native.Nat.{ℕ}
+use Prim.Native.Nat.{ℕ, zero, suc, _+_}
 use mathlib.Core.Bool.{Bool, true, false}
 use mathlib.Core.List.{List, [], _∷_, _++_}
 use mathlib.Core.Path.{_≡_}
 use lib.ListN.{take}
+use Rattle.basics.specs.Numbers.{watchdog}
 use Rattle.record.specs.declared.Record.{Record}
 use Rattle.record.specs.Layout.{packed}
 use Rattle.rules.specs.declared.Rule.{Rule}
@@ -110,6 +111,15 @@ verdictOn limit bytes = outcomeOf bytes (freshJudge limit) zeroTally .verdict
 abbrev pub opening : ℕ → List Record
 opening ad = asks 0 ∷ asks 1 ∷ reads 2 ad ∷ []
 
+-- n strobes, each 256 cycles after the one before, and the first so long after this stamp
+abbrev pub slowStrobes : ℕ → ℕ → List Record
+slowStrobes zero stamp = []
+slowStrobes (suc n) stamp = strobes (stamp + watchdog) ∷ slowStrobes n (stamp + watchdog)
+
+-- a block of sixteen words, whose fifteen strobes come as late as they may
+abbrev pub slowest : List Record
+slowest = opening 0x1E ++ slowStrobes 15 2
+
 -- a wave of which the first START, in cycle 2, is an attention cycle with this ARB
 abbrev pub turning : ℕ → List Record
 turning arb = asks 0 ∷ asks 1 ∷ attends 2 arb ∷ []
@@ -178,6 +188,12 @@ cases =
     ∷ row (only 11) 1 5 5 (turning 5 ++ (asks 3 ∷ asks 4 ∷ attends 5 5 ∷ [])) (turning 5 ++ (asks 3 ∷ asks 4 ∷ attends 5 4 ∷ []))
     -- ACK 257 cycles after START, and 256
     ∷ row (only 12) 16 3 259 (opening 0 ++ (acks 259 ∷ [])) (opening 0 ++ (acks 258 ∷ []))
+    -- the same of a block of two words (document 02, wish 5): its strobe; the ACK behind its strobe; and a block of sixteen words whose strobes come as late
+    -- as they may. TM0 in a single transfer restarts nothing
+    ∷ row (only 12) 16 3 259 (opening 2 ++ (strobes 259 ∷ [])) (opening 2 ++ (strobes 258 ∷ acks 514 ∷ []))
+    ∷ row (only 12) 16 4 515 (opening 2 ++ (strobes 258 ∷ acks 515 ∷ [])) (opening 2 ++ (strobes 3 ∷ acks 259 ∷ []))
+    ∷ row (only 12) 16 18 4099 (slowest ++ (acks 4099 ∷ [])) (slowest ++ (acks 4098 ∷ []))
+    ∷ row (only 12) 16 4 259 (opening 0 ++ (strobes 258 ∷ acks 259 ∷ [])) (opening 0 ++ (strobes 257 ∷ acks 258 ∷ []))
     -- a block of two words: a second strobe; a success without the first, where an error and a timeout need none; TM0 in a single transfer is no
     -- strobe
     ∷ row (only 13) 16 4 4 (opening 2 ++ (strobes 3 ∷ strobes 4 ∷ [])) (opening 2 ++ (strobes 3 ∷ acks 4 ∷ []))
@@ -212,7 +228,7 @@ handedOver = record { records = 7; span = 1000; starts = 0; acks = 0; aborted = 
 -- break rule 2.", of which the last two are cases of the table
 pub record EachRule : Type 0 where
   pub shown : Shown cases
-  pub all : about cases ≡ (only 1 ∷ only 1 ∷ only 1 ∷ only 2 ∷ only 2 ∷ only 2 ∷ only 3 ∷ only 3 ∷ only 4 ∷ only 5 ∷ only 6 ∷ only 6 ∷ only 7 ∷ kind8a ∷ kind8a ∷ kind8a ∷ kind8a ∷ kind8b ∷ kind8b ∷ kind8b ∷ kind8b ∷ kind8c ∷ kind8c ∷ kind8c ∷ only 9 ∷ only 9 ∷ only 10 ∷ only 11 ∷ only 12 ∷ only 13 ∷ only 13 ∷ only 13 ∷ only 13 ∷ [])
+  pub all : about cases ≡ (only 1 ∷ only 1 ∷ only 1 ∷ only 2 ∷ only 2 ∷ only 2 ∷ only 3 ∷ only 3 ∷ only 4 ∷ only 5 ∷ only 6 ∷ only 6 ∷ only 7 ∷ kind8a ∷ kind8a ∷ kind8a ∷ kind8a ∷ kind8b ∷ kind8b ∷ kind8b ∷ kind8b ∷ kind8c ∷ kind8c ∷ kind8c ∷ only 9 ∷ only 9 ∷ only 10 ∷ only 11 ∷ only 12 ∷ only 12 ∷ only 12 ∷ only 12 ∷ only 12 ∷ only 13 ∷ only 13 ∷ only 13 ∷ only 13 ∷ [])
   pub p6 : difference 0xFFFFFFFE 3 ≡ 5
   -- a breach at the first record tells the span of the tally that was handed over
   pub first : outcomeOf (bytesOf (reads 9 0 ∷ [])) (freshJudge 16) handedOver .verdict ≡ Breach (record { rule = 8; kind = 1; place = 7; span = 1000 })

@@ -8,5 +8,6 @@ pub mod Recording
 pub mod Thirteen
 pub mod Totals
 pub mod Exact
+pub mod Longest
 pub mod Cases
 pub mod Kinds

@@ -4,6 +4,7 @@
 use Prim.Native.Nat.{ℕ, zero, suc, _+_, _*_, _≤_, _<_}
 use mathlib.Core.Bool.{Bool, true, false, not, _&&_}
 use mathlib.Core.Path.{_≡_}
+use mathlib.Core.Logic.{_⊎_}
 use mathlib.Core.List.{List}
 use lib.ListN.{take, drop}
 use lib.Dec.{ltb, eqb}
@@ -68,6 +69,13 @@ wordsAt r k = wordsIn (decodeOf (r k .tm1) (r k .tm0) (r k .ad) .value .operatio
 -- record m is a strobe of the block transfer that began at record k: "TM0 with neither START nor ACK"
 abbrev pub strobeOf : Lines → ℕ → ℕ → Bool
 strobeOf r k m = ltb k m && ltb 1 (wordsAt r k) && r m .tm0 && not (r m .start) && not (r m .ack)
+
+-- the age, before record i, of the transfer that began at record k counts from record m (document 02, wish 5, "The watchdog restarts with each word"): its
+-- START or the last of its strobes
+pub record AgesFrom (r : Lines) (i k m : ℕ) : Type 0 where
+  pub earlier : m < i
+  pub word : (m ≡ k) ⊎ (strobeOf r k m ≡ true)
+  pub last : (n : ℕ) → m < n → n < i → strobeOf r k n ≡ false
 
 -- ---- RQST and the wave
 -- record k, n cycles before record i, has RQST active, and no RESET has come since: a cycle that no record has is inactive

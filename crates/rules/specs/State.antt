@@ -37,10 +37,12 @@ abbrev pub openBusy : Transfer → ℕ
 openBusy Idle = 0
 openBusy (Open words strobes age busy) = busy
 
--- an open transfer ages by the cycles since the last record, is busy in them, and counts a strobe
+-- an open transfer ages by the cycles since the last record, is busy in them, and counts a strobe; document 02, wish 5: "The age returns to 0 with each
+-- strobe" of a block
 abbrev pub agedOf : Transfer → Bool → Bool → Bool → ℕ → Transfer
 agedOf Idle start ack tm0 d = Idle
-agedOf (Open words strobes age busy) start ack tm0 d = Open words (strobes + one (strobe words start ack tm0)) (age + d) (busy + d)
+agedOf (Open words strobes age busy) start ack tm0 d =
+    Open words (strobes + one (strobe words start ack tm0)) (cond (strobe words start ack tm0) 0 (age + d)) (busy + d)
 
 -- ACK ends a transfer, and with START it opens none; a START without ACK opens one of so many words, which is busy in this cycle
 abbrev pub transferOf : Transfer → Bool → Bool → Bool → ℕ → ℕ → Transfer

@@ -9,7 +9,7 @@ use Rattle.codes.specs.Parity.{parityOf}
 use Rattle.basics.specs.Numbers.{watchdog}
 use Rattle.rules.specs.declared.Rule.{Rule}
 use Rattle.rules.specs.Names.{only, kind8a, kind8b, kind8c}
-use Rattle.rules.specs.Recording.{Lines, Recording, gap, cycle, count, Opened, wordsAt, strobeOf, Asked, Began, LastStart, startWith, Owned}
+use Rattle.rules.specs.Recording.{Lines, Recording, gap, cycle, count, Opened, wordsAt, strobeOf, AgesFrom, Asked, Began, LastStart, startWith, Owned}
 
 -- 1. "Spare bits are zero."
 abbrev pub Rule1 : (ℕ → ℕ) → ℕ → Type 0
@@ -65,9 +65,9 @@ Rule10 r i = r i .start ≡ true → (b m : ℕ) → Began r i b → LastStart r
 abbrev pub Rule11 : ℕ → Lines → ℕ → Type 0
 Rule11 limit r i = r i .start ≡ true → (b : ℕ) → Began r i b → count (startWith r b (r i .arb)) i + 1 ≤ limit
 
--- 12. "An open transfer's age is at most 256."
+-- 12. "An open transfer's age is at most 256.", this record's cycle counted before its strobe, if it is one, restarts the age
 abbrev pub Rule12 : Lines → ℕ → Type 0
-Rule12 r i = (k : ℕ) → Opened r i k → cycle r i ≤ cycle r k + watchdog
+Rule12 r i = (k m : ℕ) → Opened r i k → AgesFrom r i k m → cycle r i ≤ cycle r m + watchdog
 
 -- 13. "there are at most words less one [strobes]," this record's with them
 abbrev pub Rule13a : Lines → ℕ → Type 0

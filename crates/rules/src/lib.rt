@@ -4,8 +4,8 @@ ghost use mathlib.Core.Path.{_≡_};
 ghost use Rattle.rules.specs.State.{isOpen, isOwned, freshWave, zeroTally};
 ghost use Rattle.rules.specs.Verdict.{freshAnswer, freshOf, refusedBy};
 
-// The transfer that is open before the next record, with its words, the strobes counted so far, its age in cycles, and the cycles that it has been
-// busy, its START's with them.
+// The transfer that is open before the next record, with its words, the strobes counted so far, its age in cycles since its START or its last strobe,
+// and the cycles that it has been busy, its START's with them.
 pub enum Transfer {
     Idle,
     Open {

@@ -16,4 +16,4 @@ use Rattle.usage.specs.Cases.{cases, Shown, none, case}
 pub worked : Shown cases
 unfolding bit active activeBelow packed fieldsIn recordIn spareIn parityOf blockOf unitOf wordsOf diffOf judgeOf judgeBounds tallyBounds ruleOf stepOf nextOf refusedBy verdictOf chargedTo busyIn addedAt charged refusalFor accountRefusal accountedOf
 worked =
-    case refl (case refl (case refl (case refl (case refl (case refl (case refl (case refl (case refl (case refl (case refl (case refl (case refl (case refl (case refl (case refl (case refl (case refl (case refl (case refl none)))))))))))))))))))
+    case refl (case refl (case refl (case refl (case refl (case refl (case refl (case refl (case refl (case refl (case refl (case refl (case refl (case refl (case refl (case refl (case refl (case refl (case refl (case refl (case refl (case refl none)))))))))))))))))))))

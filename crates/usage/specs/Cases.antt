@@ -7,7 +7,7 @@ use lib.ListN.{set}
 use Rattle.entries.specs.declared.Entry.{Entry}
 use Rattle.record.specs.declared.Record.{Record}
 use Rattle.rules.specs.State.{freshJudge, zeroTally}
-use Rattle.rules.specs.Cases.{lines, cycleAt, asks, reads, attends, acks, fails, strobes, resets, bytesOf, opening, turning}
+use Rattle.rules.specs.Cases.{lines, cycleAt, asks, reads, attends, acks, fails, strobes, resets, bytesOf, opening, slowest, turning}
 use Rattle.usage.specs.Charge.{noneUsed}
 use Rattle.usage.specs.Calls.{accountedOf}
 
@@ -49,8 +49,9 @@ cases =
     ∷ record { recording = opening 0 ++ (acks 9 ∷ []); account = alone 5 1 8 }
     ∷ record { recording = opening 0 ++ (resets 9 ∷ []); account = alone 5 1 8 }
     ∷ record { recording = opening 0 ++ (resetsAll 9 ∷ []); account = alone 5 1 8 }
-    -- the longest: ACK 256 cycles after START; and over a wrap of the stamp, FFFFFFFF to 5
+    -- ACK 256 cycles after START; the longest, a block of sixteen words with as many cycles for each; and over a wrap of the stamp, FFFFFFFF to 5
     ∷ record { recording = opening 0 ++ (acks 258 ∷ []); account = alone 5 1 257 }
+    ∷ record { recording = slowest ++ (acks 4098 ∷ []); account = alone 5 1 4097 }
     ∷ record { recording = asks 0xFFFFFFFD ∷ asks 0xFFFFFFFE ∷ opens 0xFFFFFFFF 9 ∷ acks 5 ∷ []; account = alone 9 1 7 }
     -- an attention cycle is 1; slot 0 is a slot
     ∷ record { recording = turning 5; account = alone 5 1 1 }
@@ -67,8 +68,9 @@ cases =
     -- a breach changes no entry: a START while a transfer is open, a parked one with no owner since the reset
     ∷ record { recording = opening 0 ++ (reads 3 0 ∷ []); account = alone 5 1 0 }
     ∷ record { recording = opening 0 ++ (acks 3 ∷ resets 4 ∷ reads 5 0 ∷ []); account = alone 5 1 2 }
-    -- an ACK too late: 257 cycles after START
+    -- an ACK too late: 257 cycles after START, or after the last strobe
     ∷ record { recording = opening 0 ++ (acks 259 ∷ []); account = alone 5 1 0 }
+    ∷ record { recording = slowest ++ (acks 4099 ∷ []); account = alone 5 1 0 }
     ∷ []
 
 -- each recording has its account

@@ -18,13 +18,13 @@ use Rattle.rules.specs.declared.Transfer.{Transfer}
 use Rattle.rules.specs.declared.Transfer.the-variants.{Idle, Open}
 use Rattle.rules.specs.Names.{only, kind8c, noRule}
 use Rattle.rules.specs.Rules.{strobe, rule2, rule4, rule8c, rule10, rule11, rule12, rule13}
-use Rattle.rules.specs.State.{isOpen, openWords, openStrobes, openAge, askedOf, diffOf}
+use Rattle.rules.specs.State.{isOpen, openWords, openStrobes, openAge, openBusy, askedOf, diffOf}
 use Rattle.rules.specs.Bounds.{SoundTransfer}
 use Rattle.rules.specs.Run.{lowest, laterRules, rulesOf, ruleOf}
-use Rattle.rules.specs.Recording.{Lines, Recording, gap, cycle, count, Opened, wordsAt, strobeOf, Began, LastStart, startWith}
+use Rattle.rules.specs.Recording.{Lines, Recording, gap, cycle, count, Opened, wordsAt, strobeOf, AgesFrom, Began, LastStart, startWith}
 use Rattle.rules.specs.Thirteen.{rules, Breaks}
 use Rattle.rules.proofs.Hold.{Held}
-use Rattle.rules.proofs.Ride.{Forward, WaveIs, Latest, unstarted, started, Lasts, lasts}
+use Rattle.rules.proofs.Ride.{Forward, later, WaveIs, Latest, unstarted, started, Lasts, lasts}
 use Rattle.rules.proofs.Step.{takenAt, JudgeIs, Found as Lowest, forward-to, lowest-exact}
 use Rattle.rules.proofs.Exactly.{kept-not, first-only}
 use Rattle.why.specs.Figures.{figures, figuresOf}
@@ -47,15 +47,26 @@ fails true false e = (refl, refl)
 fails false b e = absurd (false≢true (sym e))
 
 -- ---- the open transfer
--- where it began, and how long ago
+-- where it began, and how long ago; from where its age counts, and how long ago that was
 record Aged (l : Lines) (i : ℕ) (t : Transfer) : Type 0 where
   place : ℕ
   since : Opened l i place
-  ago : cycle l place + (openAge t + gap l i) ≡ cycle l i
+  ago : cycle l place + (openBusy t + gap l i - 1) ≡ cycle l i
+  word : ℕ
+  from : AgesFrom l i place word
+  old : cycle l word + (openAge t + gap l i) ≡ cycle l i
 
-aged : (l : Lines) (i : ℕ) (t : Transfer) → Held l i t → isOpen t ≡ true → Aged l i t
-aged l i Idle h e = absurd (false≢true e)
-aged l i (Open w s a b) (k, h) e = record { place = k; since = h .since; ago = omega (arith, h .aged) }
+aged : (l : Lines) (i : ℕ) (t : Transfer) → Forward l i → Held l i t → isOpen t ≡ true → Aged l i t
+aged l i Idle f h e = absurd (false≢true e)
+aged l i (Open w s a b) f (k, h) e =
+    record {
+      place = k;
+      since = h .since;
+      ago = omega (arith, later l i k f (h .since .earlier), h .spent);
+      word = h .word;
+      from = h .from;
+      old = omega (arith, h .aged);
+    }
 
 -- its strobes and words
 record Strobed (l : Lines) (i : ℕ) (t : Transfer) : Type 0 where
@@ -133,18 +144,6 @@ module _ (limit : ℕ) (r : Recording) (i : ℕ) (j : Judge) (h : JudgeIs limit 
   abbrev Right : Rule → Type 0
   Right rule = (rule .number ≡ 0 → ⊥) → Found limit r i rule (figuresOf rule j (takenAt r i) d)
 
-  in-fourth : rule4 (isOpen (j .transfer)) (l i .start) ≡ false → Found limit r i (only 4) (figures (openAge (j .transfer) + d) 0)
-  in-fourth e = let x = aged l i (j .transfer) (h .transfer) (busy (l i .start) (isOpen (j .transfer)) e) in opened (x .place) _ (x .since) (x .ago)
-    where
-      busy : (s o : Bool) → not (s && o) ≡ false → o ≡ true
-      busy true true e = refl
-      busy true false e = absurd (false≢true (sym e))
-      busy false o e = absurd (false≢true (sym e))
-
-  in-twelfth : rule12 (isOpen (j .transfer)) (openAge (j .transfer)) d ≡ false → Found limit r i (only 12) (figures (openAge (j .transfer) + d) watchdog)
-  in-twelfth e =
-      let x = aged l i (j .transfer) (h .transfer) (fails (isOpen (j .transfer)) (leb (openAge (j .transfer) + d) watchdog) e .0) in old (x .place) _ (x .since) (x .ago)
-
   in-thirteenth : rule13 (isOpen (j .transfer)) (openWords (j .transfer)) (openStrobes (j .transfer)) (l i .start) (l i .ack) (l i .tm1) (l i .tm0) ≡ false
       → Found limit r i (only 13) (figures (openStrobes (j .transfer) + one (strobe (openWords (j .transfer)) (l i .start) (l i .ack) (l i .tm0))) (openWords (j .transfer) - 1))
   in-thirteenth e =
@@ -156,6 +155,18 @@ module _ (limit : ℕ) (r : Recording) (i : ℕ) (j : Judge) (h : JudgeIs limit 
       busy false e = absurd (false≢true (sym e))
 
   module _ (f : Forward l i) where
+    in-fourth : rule4 (isOpen (j .transfer)) (l i .start) ≡ false → Found limit r i (only 4) (figures (openBusy (j .transfer) + d - 1) 0)
+    in-fourth e = let x = aged l i (j .transfer) f (h .transfer) (busy (l i .start) (isOpen (j .transfer)) e) in opened (x .place) _ (x .since) (x .ago)
+      where
+        busy : (s o : Bool) → not (s && o) ≡ false → o ≡ true
+        busy true true e = refl
+        busy true false e = absurd (false≢true (sym e))
+        busy false o e = absurd (false≢true (sym e))
+
+    in-twelfth : rule12 (isOpen (j .transfer)) (openAge (j .transfer)) d ≡ false → Found limit r i (only 12) (figures (openAge (j .transfer) + d) watchdog)
+    in-twelfth e =
+        let x = aged l i (j .transfer) f (h .transfer) (fails (isOpen (j .transfer)) (leb (openAge (j .transfer) + d) watchdog) e .0) in old (x .place) (x .word) _ (x .since) (x .from) (x .old)
+
     in-eighth : rule8c (l i .start) (askedOf (j .wave) d) (j .wave .since + d) ≡ false → Found limit r i kind8c (figures (j .wave .since + d) 3)
     in-eighth e =
         let z = fails (l i .start && askedOf (j .wave) d) (leb 3 (j .wave .since + d)) e in

@@ -10,7 +10,7 @@ use Rattle.rules.specs.declared.Judge.{Judge}
 use Rattle.rules.specs.declared.Rule.{Rule}
 use Rattle.rules.specs.Names.{only, kind8c}
 use Rattle.rules.specs.Rules.{strobe}
-use Rattle.rules.specs.State.{openWords, openStrobes, openAge}
+use Rattle.rules.specs.State.{openWords, openStrobes, openAge, openBusy}
 use Rattle.rules.specs.Run.{Taken}
 use Rattle.why.specs.declared.Figures.{Figures}
 
@@ -28,7 +28,7 @@ rowsOf j r d =
     -- SP; what it is to be
     ∷ (only 3, figures (one (r .lines .sp)) (one (parityOf (r .lines .ad))))
     -- cycles since the open transfer's START; none is to be open
-    ∷ (only 4, figures (openAge (j .transfer) + d) 0)
+    ∷ (only 4, figures (openBusy (j .transfer) + d - 1) 0)
     -- cycles since the wave's last START; they are to be 3 or more
     ∷ (kind8c, figures (j .wave .since + d) 3)
     -- ARB at this START; at most the one at the wave's last START

@@ -5,7 +5,7 @@ ghost use mathlib.Core.Bool.{cond};
 ghost use Prim.Native.Nat.{_+_, _-_};
 ghost use Rattle.basics.specs.Lines.{one};
 ghost use Rattle.rules.specs.Rules.{strobe};
-ghost use Rattle.rules.specs.State.{openWords, openStrobes, openAge};
+ghost use Rattle.rules.specs.State.{openWords, openStrobes, openAge, openBusy};
 ghost use Rattle.why.specs.Figures.{figures, sameRule, figuresOf};
 use record::Record;
 use rules::Judge;
@@ -16,6 +16,15 @@ use rules::Transfer;
 pub struct Figures {
     pub found: u64,
     pub bound: u64,
+}
+
+fn less_one(n: u64) -> u64
+    ensures { λ r. ⌜ r ≡ n - 1 ⌝ }
+{
+    if n == 0 {
+        return 0;
+    }
+    n - 1
 }
 
 // ---- the open transfer, 0 where none is open
@@ -35,6 +44,21 @@ fn age_at(transfer: Transfer, d: u32) -> u64
     }
 }
 
+// Cycles since its START: those that it has been busy for, the START's own among them.
+fn since_start(transfer: Transfer, d: u32) -> u64
+    ensures { λ r. ⌜ r ≡ openBusy transfer + d - 1 ⌝ }
+{
+    match transfer {
+        Transfer::Idle => less_one(d as u64),
+        Transfer::Open {
+            words: _,
+            strobes: _,
+            age: _,
+            busy,
+        } => less_one(busy as u64 + d as u64),
+    }
+}
+
 // Its strobes, this record's with them where it is one.
 fn strobes_at(transfer: Transfer, start: bool, ack: bool, tm0: bool) -> u64
     ensures { λ r. ⌜ r ≡ openStrobes transfer + one (strobe (openWords transfer) start ack tm0) ⌝ }
@@ -50,15 +74,6 @@ fn strobes_at(transfer: Transfer, start: bool, ack: bool, tm0: bool) -> u64
     }
 }
 
-fn less_one(n: u8) -> u64
-    ensures { λ r. ⌜ r ≡ n - 1 ⌝ }
-{
-    if n == 0 {
-        return 0;
-    }
-    n as u64 - 1
-}
-
 // Its words less one.
 fn strobes_most(transfer: Transfer) -> u64
     ensures { λ r. ⌜ r ≡ openWords transfer - 1 ⌝ }
@@ -70,7 +85,7 @@ fn strobes_most(transfer: Transfer) -> u64
             strobes: _,
             age: _,
             busy: _,
-        } => less_one(words),
+        } => less_one(words as u64),
     }
 }
 
@@ -99,6 +114,7 @@ pub fn figures_of(rule: Rule, judge: Judge, lines: Record, spare: u16, d: u32) -
     let since = wave.since as u64 + d as u64;
     let turn = wave.turn as u64 + 1;
     let age = age_at(transfer, d);
+    let opened = since_start(transfer, d);
     let strobes = strobes_at(transfer, lines.start, lines.ack, lines.tm0);
     let most = strobes_most(transfer);
     let sp = basics::one_if(lines.sp) as u64;
@@ -109,7 +125,7 @@ pub fn figures_of(rule: Rule, judge: Judge, lines: Record, spare: u16, d: u32) -
     let r11 = row(rule, 11, 0, turn, judge.limit as u64, r12);
     let r10 = row(rule, 10, 0, lines.arb as u64, wave.arb as u64, r11);
     let r8c = row(rule, 8, 3, since, 3, r10);
-    let r4 = row(rule, 4, 0, age, 0, r8c);
+    let r4 = row(rule, 4, 0, opened, 0, r8c);
     let r3 = row(rule, 3, 0, sp, odd, r4);
     let r2 = row(rule, 2, 0, d as u64, 2147483648, r3);
     row(rule, 1, 0, spare as u64, 0, r2)

@@ -22,6 +22,9 @@ add-turn c = search needs
 age-at-requires : tie.Need-age-at-requires
 age-at-requires c κs = search needs
 
+since-start-requires : tie.Need-since-start-requires
+since-start-requires c κs = search needs
+
 strobes-at-requires : tie.Need-strobes-at-requires
 strobes-at-requires c κs = search needs
 
@@ -88,13 +91,14 @@ returns c =
     let r10 = c .before .before .before .before .before in
     let r12 = r10 .before .before .before .before .before in
     let odd = r12 .before .before in
-    let age = odd .before .before .before .before .before in
+    let opened = odd .before .before .before .before .before in
+    let age = opened .before in
     let a = age .before .before .before .before .args in
     rows-say (a .rule) (rowsOf (a .judge) (record { lines = a .lines; spare = a .spare }) (a .d)) _ (
     also _ _ (c .row9 .ensures) refl refl (
     also _ _ (c .before .row8 .ensures) refl refl (
     also _ _ (c .before .before .row7 .ensures) (odd .before .before .one-if .ensures .0) (odd .one-if2 .ensures .0 ∙ ap one (odd .before .parity .ensures)) (
-    also _ _ (c .before .before .before .row6 .ensures) (age .age-at .ensures) refl (
+    also _ _ (c .before .before .before .row6 .ensures) (opened .since-start .ensures) refl (
     also _ _ (c .before .before .before .before .row5 .ensures) refl refl (
     also _ _ (r10 .row4 .ensures) refl refl (
     also _ _ (r10 .before .before .before .row3 .ensures) refl refl (
@@ -111,6 +115,7 @@ figures-of-spec =
     cast-turn
     add-turn
     age-at-requires
+    since-start-requires
     strobes-at-requires
     strobes-most-requires
     one-if-requires

@@ -31,23 +31,26 @@ one-if-requires c κs = search needs
 add-with : tie.Need-add-with
 add-with c = let h = sound-of c in omega arith
 
-cast-older : tie.Need-cast-older
-cast-older c = search needs
+cast-age-after : tie.Need-cast-age-after
+cast-age-after c = search needs
 
-add-older : tie.Need-add-older
-add-older c = omega (arith, young-of c)
+add-age-after : tie.Need-add-age-after
+add-age-after c = omega (arith, young-of c)
+
+age-after-requires : tie.Need-age-after-requires
+age-after-requires c κs = search needs
 
 add-longer : tie.Need-add-longer
-add-longer c = let h = sound-of c in omega (arith, young-of c)
+add-longer c = let h = sound-of (c .before) in omega (arith, young-of (c .before))
 
-cast-t20 : tie.Need-cast-t20
-cast-t20 c = omega (arith, young-of c)
+cast-t21 : tie.Need-cast-t21
+cast-t21 c = omega (arith, young-of (c .before), c .age-after .ensures .1)
 
 returns : tie.Need-returns
 returns c = simp (c .enum-told .given .1)
 
 returns-2 : tie.Need-returns-2
-returns-2 c = simp (c .before .before .before .before .before .transfer .given .1, c .one-if .ensures .0)
+returns-2 c = simp (c .before .before .before .before .before .before .transfer .given .1, c .before .one-if .ensures .0, c .age-after .ensures .0)
 
 pub aged-spec : {M : Type 1} → statement M
 aged-spec =
@@ -57,9 +60,10 @@ aged-spec =
     enum-known-transfer
     one-if-requires
     add-with
-    cast-older
-    add-older
+    cast-age-after
+    add-age-after
+    age-after-requires
     add-longer
-    cast-t20
+    cast-t21
     returns
     returns-2)
