@@ -194,6 +194,7 @@ static inline __attribute__((always_inline)) int judge_any(struct state *state, 
                         break;
                     }
                     s.strobes++;
+                    age = 0; /* the watchdog restarts with each word (document 02, wish 5) */
                 }
                 s.age = (uint32_t)age;
             }

@@ -8,7 +8,7 @@ static struct maker some_owners(struct rng *g, size_t records)
 {
     struct maker m;
     maker_start(&m, g, NO_LIMIT_GIVEN);
-    traffic_owners(&m, records, 0);
+    traffic_owners(&m, records, PLAIN_OWNERS);
     return m;
 }
 

@@ -5,14 +5,15 @@
 
 enum feature {
     PARKED, OTHER_ARB, BEGINNING, BEHIND_ATTENTION, ATTENTION, PARKED_ATTENTION, SLOT_0, MISSING, WRAPS,
-    WATCHDOG_LAST, ABORTED, ABORTED_NEXT, ABORTED_GAP, ABORTED_LONG, LEFT_OPEN, BREACH_OPEN,
+    WATCHDOG_LAST, LONGER, LONGEST_ONE, ABORTED, ABORTED_NEXT, ABORTED_GAP, ABORTED_LONG, LEFT_OPEN, BREACH_OPEN,
     BEYOND, FEATURES
 };
 static const char *const names[FEATURES] = {
     "parked STARTs", "with another ARB than the owner's", "in a wave's first cycle",
     "right behind an attention cycle", "attention cycles", "parked ones", "STARTs of slot 0",
-    "transfers with cycles missing", "with a wrap", "of 257 cycles", "aborted",
-    "in the cycle behind their START", "behind missing cycles", "beyond 257 cycles",
+    "transfers with cycles missing", "with a wrap", "of 257 cycles", "of more that end by ACK", "of 4,097",
+    "aborted",
+    "in the cycle behind their START", "behind missing cycles", "beyond 4,097 cycles",
     "recordings that end with one open", "breaches with one open",
     "slots busy for 2^32 cycles or more"};
 static unsigned long met[FEATURES], of_slot[SLOTS];
@@ -50,12 +51,15 @@ static void meet_end(const struct judge *j, const struct record *r, const struct
     met[MISSING] += t->missing;
     met[WRAPS] += t->wrapped;
     met[WATCHDOG_LAST] += j->busy + cycles == WATCHDOG + 1;
-    if (!r->reset)
+    if (!r->reset) { /* the age is no longer the busy time (document 02, wish 5) */
+        met[LONGER] += j->busy + cycles > WATCHDOG + 1;
+        met[LONGEST_ONE] += j->busy + cycles == LONGEST;
         return;
+    }
     met[ABORTED]++;
     met[ABORTED_NEXT] += t->records == 1 && cycles == 1;
     met[ABORTED_GAP] += cycles > 1;
-    met[ABORTED_LONG] += j->busy + (uint64_t)cycles > WATCHDOG + 1;
+    met[ABORTED_LONG] += j->busy + (uint64_t)cycles > LONGEST;
 }
 
 static void meet_record(const struct judge *j, const struct record *r, struct transfer *t,

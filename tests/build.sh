@@ -8,7 +8,7 @@ out=$(cd "$out" && pwd)
 cd "$(dirname "$0")"
 flags="-O2 -std=c11 -Wall -Wextra -Werror"
 model="record codes contest bus cache judging accounts calls"
-makers="make traffic wild owners damage callsmake callsbus callscache callsjudge callsaccount"
+makers="make traffic wild owners slow damage callsmake callsbus callscache callsjudge callsaccount"
 marks="marks marked"
 running="run describe compare"
 desk="deskquote deskfleet deskshow deskwhy deskbound deskback deskrows deskfigures"
@@ -21,14 +21,14 @@ link() { # the program, then its objects
 }
 link modelcalls $model
 link modeljudge $model
-link outside accountsmet $model $makers $running
+link outside accountsmet watchdogmet $model $makers $running
 link faults bigstreams boundary phasefaults accountfaults marks $model $makers $running
 link limits $model $makers $running
-link golden goldenrules goldenbreach goldenphases goldenaccounts goldenentries goldenlanes $model $makers $running
+link golden goldenrules goldenbreach goldenphases goldenaccounts goldenentries goldenlanes goldenwatchdog $model $makers $running
 link modelphases marks $model
 link modelaccounts $model
 link phases phasewords $marks $model $makers $running
-link selftest lookback selfmarks selflanes marksback selfaccounts accountsback accountsmet $marks $model $makers
+link selftest lookback selfmarks selflanes selfwatchdog marksback selfaccounts accountsback accountsmet watchdogmet $marks $model $makers
 link desk $desk $model $makers $running
 link modeldesk deskfigures deskrows deskcause run $model make
 link vcdsamples

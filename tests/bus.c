@@ -1,4 +1,4 @@
-/* One bus cycle (01, "One bus cycle"). */
+/* One bus cycle (01, "One bus cycle"; 02, wish 5). */
 #include "spur.h"
 
 /* Refusal 3: the hold limit is 1 to 16. */
@@ -80,7 +80,10 @@ static uint8_t arbitrate(struct bus *b, const struct bus *before, const struct n
     return starter;
 }
 
-/* What the slave's event and the watchdog do to a transfer that was open before. */
+/* What the slave's event and the watchdog do to a transfer that was open before. "The age returns to 0
+   with each strobe that takes an owed word", and that one "is taken before the timer fires"; "a finish
+   still wins over both", "strobes that are extra restart nothing" (02, wish 5), and in the timer's cycle they
+   aren't noted (01). */
 static void transfer(struct bus *b, int event, int status, struct answer *a)
 {
     int age = b->age + 1;
@@ -92,6 +95,11 @@ static void transfer(struct bus *b, int event, int status, struct answer *a)
         b->open = b->owed = b->age = 0;
         return;
     }
+    if (event == STROBE && b->owed > 1) {
+        b->owed--;
+        b->age = 0;
+        return;
+    }
     if (age == WATCHDOG) {
         a->ack = 1;
         a->status = TIMEOUT;
@@ -99,12 +107,8 @@ static void transfer(struct bus *b, int event, int status, struct answer *a)
         return;
     }
     b->age = (uint8_t)age;
-    if (event == STROBE) {
-        if (b->owed > 1)
-            b->owed--;
-        else
-            a->note = NOTE_EXTRA;
-    }
+    if (event == STROBE)
+        a->note = NOTE_EXTRA;
 }
 
 int bus_cycle(struct bus *b, int reset, int event, int status, const struct node *nodes,

@@ -164,6 +164,18 @@ static uint32_t start_of(struct caller *c, uint8_t slot, int attention)
     return r[3].stamp;
 }
 
+/* Strobes of the open block, each as late as it may come: the age restarts and the busy time goes on (02,
+   wish 5). Gives the cycles that it took. */
+static uint32_t late_words(struct caller *c, uint32_t count)
+{
+    uint32_t began = c->d.judge.stamp;
+    for (; count > 0; count--) {
+        struct record r = {.stamp = c->d.judge.stamp + 256u - c->d.judge.age, .tm0 = 1};
+        judge_with(c, &r, 1, SLOTS);
+    }
+    return c->d.judge.stamp - began;
+}
+
 /* A state and a tally that don't belong together: a transfer set open, of some age, beside a tally of
    little or no span. Its end is counted and pushes the entry past its bounds, so the next judging is
    refused, and so is a question for that slot alone, until the tally allows what was counted. */
@@ -173,8 +185,9 @@ static void apart(struct caller *c)
     struct rng *g = c->g;
     uint8_t slot = (uint8_t)rng_below(g, SLOTS);
     struct record end = {.stamp = start_of(c, slot, rng_chance(g, 50))};
-    struct judge j = {.limit = 16, .open = 1, .words = 1};
+    struct judge j = {.limit = 16, .open = 1, .words = (uint8_t)(1 + rng_below(g, MOST_WORDS))};
     struct tally t = {3 + rng_below(g, 3), rng_below(g, 3), rng_below(g, 4), 0, 0};
+    j.strobes = (uint8_t)rng_below(g, j.words);
     j.age = (uint16_t)(rng_chance(g, 50) ? 256 - rng_below(g, 3) : rng_below(g, 256));
     j.turn = 1;
     j.arb = (uint8_t)rng_below(g, SLOTS); /* the wave's, and not the owner's */
@@ -184,6 +197,8 @@ static void apart(struct caller *c)
     call_set_judge(c, &j);
     if (rng_chance(g, 70))
         call_set_tally(c, &t);
+    if (j.age < 256)
+        end.stamp += late_words(c, rng_below(g, j.words - j.strobes));
     judge_with(c, &end, 1, SLOTS);
     ask(c, slot, SLOTS);
     ask(c, (slot + 1u) % SLOTS, SLOTS);

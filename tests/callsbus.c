@@ -2,7 +2,7 @@
 #include <stdlib.h>
 #include "caller.h"
 
-enum manner { POLITE, SILENT, STROBING, LATE, RANDOM, BRINK, MANNERS };
+enum manner { POLITE, SILENT, STROBING, LATE, RANDOM, BRINK, SLOW, MANNERS };
 
 struct scene {
     enum manner slave;
@@ -54,6 +54,10 @@ static int event(struct caller *c, const struct scene *s, int *status)
         if (b->open && b->age == 255)
             return 1 + (int)rng_below(g, 2);
         return NOTHING;
+    case SLOW: /* each word there as long as one is owed (02, wish 5), and then anything */
+        if (!b->open || b->age < 255)
+            return NOTHING;
+        return b->owed > 1 ? STROBE : (int)rng_below(g, 3);
     default:
         return rng_chance(g, 70) ? NOTHING : (int)rng_below(g, 3);
     }
@@ -229,7 +233,7 @@ static void run(struct caller *c, size_t calls)
         cycle(c, &s);
         if (rng_chance(g, 2))
             out_of_bounds(c, &s);
-        if (c->d.bus.open && c->d.bus.age < 240 && rng_chance(g, 4)) { /* time passes */
+        if (c->d.bus.open && c->d.bus.age < 240 && rng_chance(g, s.slave == SLOW ? 30 : 4)) { /* time passes */
             struct bus b = c->d.bus;
             b.age = (uint8_t)(250 + rng_below(g, 6));
             set_bus(c, &b);

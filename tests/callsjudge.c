@@ -216,6 +216,53 @@ static void raw_turn(struct caller *c, unsigned limit)
     early_start(c);
 }
 
+/* An age set raw in a block of any length up to sixteen words, and records at the edges of rule 12 behind it,
+   strobes mostly (02, wish 5); then a RESET. */
+static void raw_age(struct caller *c, unsigned limit)
+{
+    struct rng *g = c->g;
+    struct record r = {.stamp = rng_word(g)};
+    struct judge j = some_judge(g, limit);
+    uint8_t bytes[RECORD];
+    call_fresh(c, limit);
+    record_write(&r, bytes);
+    call_piece(c, bytes, RECORD);
+    j.open = 1;
+    j.turn = 0;
+    call_set_judge(c, &j);
+    for (uint32_t n = 1 + rng_below(g, 8); n > 0 && c->d.judge.open; n--) {
+        unsigned age = 255 + rng_below(g, 3);
+        r = (struct record){.stamp = c->d.judge.stamp + 1, .tm0 = 1, .tm1 = (uint8_t)rng_below(g, 2)};
+        if (age > c->d.judge.age)
+            r.stamp += age - c->d.judge.age - 1;
+        r.ack = (uint8_t)rng_chance(g, 15);
+        r.tm0 = (uint8_t)rng_chance(g, 85);
+        record_write(&r, bytes);
+        call_piece(c, bytes, RECORD);
+    }
+    r = (struct record){.stamp = c->d.judge.stamp + 1 + rng_below(g, 300), .reset = 1};
+    record_write(&r, bytes);
+    call_piece(c, bytes, RECORD);
+}
+
+static enum owners some_owners(struct rng *g)
+{
+    return rng_chance(g, 12) ? LATE_ABORTS : rng_chance(g, 15) ? LATE_WORDS : PLAIN_OWNERS;
+}
+
+static void some_traffic(struct maker *m, int accounts)
+{
+    struct rng *g = m->g;
+    switch (accounts && rng_chance(g, 40) ? 7 : rng_below(g, 7)) {
+    case 7: traffic_owners(m, 20 + rng_below(g, 100), some_owners(g)); break;
+    case 0: traffic_bus(m, rng_below(g, 120)); break;
+    case 1: traffic_wild(m, rng_below(g, 120)); break;
+    case 2: damage(m, 8, 1 + (int)rng_below(g, KINDS - 1)); break;
+    case 6: traffic_slow(m, rng_below(g, SLOW_ENDINGS)); break;
+    default: damage(m, 1 + (int)rng_below(g, 13), 0); break;
+    }
+}
+
 static void recording(struct caller *c, size_t calls)
 {
     struct rng *g = c->g;
@@ -223,17 +270,13 @@ static void recording(struct caller *c, size_t calls)
     unsigned limit = c->out->len == 0 ? 16 : 1 + rng_below(g, 16);
     uint32_t raw = rng_chance(g, 40) ? 3 : 0;
     maker_start(&m, g, limit);
-    switch (c->accounts > 0 && rng_chance(g, 40) ? 6 : rng_below(g, 6)) {
-    case 6: traffic_owners(&m, 20 + rng_below(g, 100), rng_chance(g, 12)); break;
-    case 0: traffic_bus(&m, rng_below(g, 120)); break;
-    case 1: traffic_wild(&m, rng_below(g, 120)); break;
-    case 2: damage(&m, 8, 1 + (int)rng_below(g, KINDS - 1)); break;
-    default: damage(&m, 1 + (int)rng_below(g, 13), 0); break;
-    }
+    some_traffic(&m, c->accounts > 0);
     if (c->out->len > 0 && rng_chance(g, 15))
         first_records(c, limit);
     if (c->out->len > 0 && rng_chance(g, 10))
         raw_turn(c, limit);
+    if (c->out->len > 0 && rng_chance(g, 15))
+        raw_age(c, limit);
     if (limit != 16 || c->out->len > 0) /* at first the judge is fresh, with limit 16 */
         call_fresh(c, limit);
     for (size_t at = 0; at < m.out.len && !caller_full(c, calls);) {

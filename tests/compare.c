@@ -30,6 +30,16 @@ static void cover(const uint8_t *c, const uint8_t *a)
         covered.lanes[a[7]]++;
 }
 
+/* The watchdog's 256th cycle, and strobes that are taken in the one before. */
+static void cover_due(const struct bus *before, const uint8_t *c, const uint8_t *a)
+{
+    if (c[0] != 9 || a[0] != 0 || c[1] != 0 || !before->open)
+        return;
+    if (before->age == WATCHDOG - 1)
+        covered.due[c[2] % 3][before->owed > 1]++;
+    covered.before_due += before->age == WATCHDOG - 2 && c[2] % 3 == STROBE && before->owed > 1;
+}
+
 static void say_calls(const struct subject_program *p, const struct buffer *in, size_t at,
                       const uint8_t *expected, const struct result *r, FILE *say)
 {
@@ -75,6 +85,7 @@ static long calls_differ(const struct subject_program *p, const struct buffer *i
     run_bytes(p->command, in->bytes, in->len, p->feed, p->seconds, &r);
     driver_start(&d);
     for (size_t i = 0; i < calls && at < 0; i++) {
+        struct bus before = d.bus;
         int settled = driver_call(&d, in->bytes + i * CALL, expected);
         if (r.out.len < (i + 1) * CALL) {
             at = (long)i;
@@ -82,6 +93,7 @@ static long calls_differ(const struct subject_program *p, const struct buffer *i
             covered.skipped++;
         } else {
             cover(in->bytes + i * CALL, expected);
+            cover_due(&before, in->bytes + i * CALL, expected);
             if (memcmp(expected, r.out.bytes + i * CALL, CALL) != 0)
                 at = (long)i;
         }

@@ -30,6 +30,9 @@ struct coverage {
     unsigned long kinds[KINDS], far; /* of rule 8; breaches at a span of 2^32 or more */
     unsigned long op_refusal[OPERATIONS][9];
     unsigned long lanes[1 << LANES]; /* of the decoder's answers (02, wish 4), refused ones too */
+    /* Of cycles in which the watchdog's timer is due, by event and whether a word beside the last is owed;
+       and strobes taken one cycle before it (02, wish 5). */
+    unsigned long due[3][2], before_due;
 };
 extern struct coverage covered;
 #endif

@@ -61,6 +61,7 @@ static void say_nodes(FILE *to, const uint8_t *c)
 
 void say_call(FILE *to, const uint8_t *c)
 {
+    static const char *const events[] = {"nothing", "strobe", "finish"};
     int known = c[0] < sizeof names / sizeof names[0];
     fprintf(to, "%d %s", c[0], known ? names[c[0]] : "no operation");
     switch (c[0]) {
@@ -77,7 +78,7 @@ void say_call(FILE *to, const uint8_t *c)
     case 7: fprintf(to, " set %04llX", number(c + 1, 2)); break;
     case 8: case 19: fprintf(to, " limit %d", c[1]); break;
     case 9:
-        fprintf(to, " reset %d event %d status %d", c[1] != 0, c[2] % 3, c[3] % 4);
+        fprintf(to, " reset %d event %s status %d", c[1] != 0, events[c[2] % 3], c[3] % 4);
         say_nodes(to, c);
         break;
     case 10: fputc(' ', to); say_bus(to, c + 16); break;

@@ -53,6 +53,21 @@ static uint64_t words_of(const struct record *start)
     return (low & 1) == 0 ? 2 : (low & 2) == 0 ? 4 : (low & 4) == 0 ? 8 : 16;
 }
 
+static int strobes_at(const struct past *p, long i)
+{
+    return p->at[i].tm0 && !p->at[i].ack && !p->at[i].start;
+}
+
+/* The record from which the age counts at record i: the last strobe of an open block, else the START
+   (document 02, wish 5). */
+static long restarted(const struct past *p, long i, long open)
+{
+    for (long k = i - 1; k > open && words_of(&p->at[open]) > 1; k--)
+        if (strobes_at(p, k))
+            return k;
+    return open;
+}
+
 static struct cause look(const struct past *p, long i, unsigned spare, unsigned limit,
                          struct verdict v)
 {
@@ -74,10 +89,10 @@ static struct cause look(const struct past *p, long i, unsigned spare, unsigned 
         for (; last >= 0; last = start_before(p, last))
             c.found += p->at[last].arb == r->arb;
         return c;
-    case 12: return (struct cause){p->cycle[i] - p->cycle[open], 256};
+    case 12: return (struct cause){p->cycle[i] - p->cycle[restarted(p, i, open)], 256};
     case 13:
         for (long k = open + 1; k <= i; k++)
-            c.found += p->at[k].tm0 && !p->at[k].ack && !p->at[k].start;
+            c.found += (uint64_t)strobes_at(p, k);
         c.bound = words_of(&p->at[open]) - 1;
         return c;
     }

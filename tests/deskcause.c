@@ -1,10 +1,16 @@
 /* Why a record breaks its rule: what was found and what bounds it, from the judge's state before it. */
 #include "desk.h"
 
+/* Since the transfer's START, for rule 4; busy counts the START's own cycle too. */
+static uint64_t open_for(const struct judge *j, const struct record *r)
+{
+    return (uint64_t)j->busy - 1 + (uint32_t)(r->stamp - j->stamp);
+}
+
+/* The age that rule 12 bounds: since the START or the last strobe (document 02, wish 5). */
 static uint64_t age_at(const struct judge *j, const struct record *r)
 {
-    /* busy counts the START's own cycle too */
-    return (uint64_t)j->busy - 1 + (uint32_t)(r->stamp - j->stamp);
+    return (uint64_t)j->age + (uint32_t)(r->stamp - j->stamp);
 }
 
 struct cause cause_of(const struct judge *j, const uint8_t *bytes, struct verdict v)
@@ -15,7 +21,7 @@ struct cause cause_of(const struct judge *j, const uint8_t *bytes, struct verdic
     case 1: return (struct cause){spare, 0};
     case 2: return (struct cause){(uint32_t)(r.stamp - j->stamp), (uint64_t)1 << 31};
     case 3: return (struct cause){r.sp, (uint64_t)code_parity(r.ad)};
-    case 4: return (struct cause){age_at(j, &r), 0};
+    case 4: return (struct cause){open_for(j, &r), 0};
     case 8:
         if (v.kind == TOO_SOON)
             return (struct cause){j->since + 1u, 3};

@@ -28,9 +28,9 @@ unwritable_for() { # COMMAND WORDS..
 }
 
 quotes() {
-    expect 'quote: slot 0, limit 16' 0 'slot 0 limit 16 others 480 cycles 123617 seconds 0.0123617' '' "$spur" quote 0 16
-    expect 'quote: slot 15, limit 1' 0 'slot 15 limit 1 others 16 cycles 4113 seconds 0.0004113' '' "$spur" quote 15 1
-    expect 'quote: slot 7, limit 4' 0 'slot 7 limit 4 others 93 cycles 23902 seconds 0.0023902' '' "$spur" quote 7 4
+    expect 'quote: slot 0, limit 16' 0 'slot 0 limit 16 others 480 cycles 1970657 seconds 0.1970657' '' "$spur" quote 0 16
+    expect 'quote: slot 15, limit 1' 0 'slot 15 limit 1 others 16 cycles 65553 seconds 0.0065553' '' "$spur" quote 15 1
+    expect 'quote: slot 7, limit 4' 0 'slot 7 limit 4 others 93 cycles 381022 seconds 0.0381022' '' "$spur" quote 7 4
     for words in '16 1' '99999999999999999999999 1' '16 0' '16 17'; do
         # shellcheck disable=SC2086
         expect "quote: $words" 2 'refused 2' '' "$spur" quote $words

@@ -39,8 +39,8 @@ static void say_seconds(struct buffer *out, uint64_t cycles)
                (unsigned long long)(cycles % 10000000));
 }
 
-/* What demand 3 gives: (30 - s) x limit STARTs of others and, for a slot over 0, a parked one more; 257
-   cycles for each and for its own, the parked one costing one cycle. */
+/* What demand 3 gives: (30 - s) x limit STARTs of others and, for a slot over 0, a parked one more; for each
+   and for its own the 4,097 cycles that document 02's wish 5 makes of 257, the parked one costing one cycle. */
 struct said quote_program(char **words, size_t count)
 {
     struct said s = {{0}, NULL};
@@ -56,7 +56,7 @@ struct said quote_program(char **words, size_t count)
         buffer_say(&s.out, "refused 3\n");
     } else {
         uint64_t waves = (30 - slot) * limit, parked = slot > 0 ? 1 : 0;
-        uint64_t cycles = 257 * (waves + 1) + parked;
+        uint64_t cycles = LONGEST * (waves + 1) + parked;
         buffer_say(&s.out, "slot %u limit %u others %u cycles %u seconds ", (unsigned)slot,
                    (unsigned)limit, (unsigned)(waves + parked), (unsigned)cycles);
         say_seconds(&s.out, cycles);

@@ -10,12 +10,12 @@ struct wait {
 };
 static unsigned long runs, reached;
 
-static const struct node asks = {1, 0, 1}, keeps = {1, 1, 1}, quiet = {0, 0, 0};
+static const struct node asks = {1, 0, MOST_WORDS}, keeps = {1, 1, MOST_WORDS}, quiet = {0, 0, 0};
 
 static struct answer step(struct bus *b, const struct node *nodes, int event)
 {
     struct answer a;
-    if (bus_cycle(b, 0, event, SUCCESS, nodes, SLOTS, &a) != 0) {
+    if (bus_cycle(b, 0, event, ERROR, nodes, SLOTS, &a) != 0) {
         fprintf(stderr, "the model refuses a cycle\n");
         exit(2);
     }
@@ -41,11 +41,32 @@ static void own(struct bus *b, unsigned slot, struct node *nodes)
     step(b, nodes, FINISH);
 }
 
+/* The slave that makes a transfer last longest: each word that it may strobe comes in the 256th cycle, and
+   the last one never, so that the watchdog ends it (document 02, wish 5). */
+static int slowest(const struct bus *b)
+{
+    return b->open && b->owed > 1 && b->age == WATCHDOG - 1 ? STROBE : NOTHING;
+}
+
+/* Where a cycle without an event has changed nothing but the age, more like it do the same as long as the
+   timer doesn't fire. Goes on to the age before its cycle and gives the cycles left out. */
+static uint64_t waiting(struct bus *b, const struct bus *before, const struct answer *a)
+{
+    struct bus older = *before;
+    older.age++;
+    if (!before->open || a->start || a->ack || b->wave != older.wave || b->settling != older.settling ||
+        b->turn != older.turn || b->owner != older.owner || b->owed != older.owed || b->age != older.age)
+        return 0;
+    b->age = WATCHDOG - 1;
+    return (uint64_t)WATCHDOG - 1 - older.age;
+}
+
 /* The master starts once more, parked, while the fifteen others form a wave without it, all to hold as
-   long as they may; it asks again in the next cycle. No slave answers, so each transfer ends by the watchdog.
-   For a slot over 0 the lowest of the others, slot 0, makes its last START of that wave an attention cycle:
-   the bus is idle, and it starts once more, parked, while the next wave forms. */
-static struct wait worst(unsigned slot, unsigned limit)
+   long as they may; it asks again in the next cycle. The slave is the slowest, and the watchdog ends each
+   transfer. For a slot over 0 the lowest of the others, slot 0, makes its last START of that wave an attention
+   cycle: the bus is idle, and it starts once more, parked, while the next wave forms. Run whole, or without the
+   cycles of waiting. */
+static struct wait worst(unsigned slot, unsigned limit, int whole)
 {
     struct bus b;
     struct node nodes[SLOTS];
@@ -61,19 +82,23 @@ static struct wait worst(unsigned slot, unsigned limit)
         exit(2);
     }
     do {
-        nodes[0].words = slot > 0 && b.wave == 1 && b.turn + 1u == limit ? 0 : 1;
-        a = step(&b, nodes, NOTHING);
+        struct bus before = b;
+        int event = slowest(&b);
+        nodes[0].words = slot > 0 && b.wave == 1 && b.turn + 1u == limit ? 0 : MOST_WORDS;
+        a = step(&b, nodes, event);
         w.cycles++;
         w.others += a.start && a.starter != slot;
+        if (!whole && event == NOTHING)
+            w.cycles += waiting(&b, &before, &a);
     } while (!a.start || a.starter != slot);
     runs++;
     return w;
 }
 
-/* By the paper's theorem. */
+/* By the paper's theorem, with the number of document 02's wish 5. */
 static struct wait bound(unsigned slot, unsigned limit)
 {
-    struct wait w = {(30 - slot) * limit, 257 * ((30 - slot) * limit + 1)};
+    struct wait w = {(30 - slot) * limit, LONGEST * ((30 - slot) * limit + 1)};
     w.others += slot > 0;
     w.cycles += slot > 0;
     return w;
@@ -92,9 +117,11 @@ static void say_time(struct buffer *out, const char *digits)
     buffer_say(out, "%.*s.%s\n", (int)(len - 7), digits, digits + len - 7);
 }
 
+/* Every cycle is run at limit 1, and for the longest wait of all. */
 static void one_quote(unsigned slot, unsigned limit)
 {
-    struct wait w = worst(slot, limit), most = bound(slot, limit);
+    int whole = limit == 1 || (slot == 0 && limit == 16);
+    struct wait w = worst(slot, limit, whole), most = bound(slot, limit);
     struct said right = {{0}, NULL};
     char digits[32], words[64];
     int same = w.others == most.others && w.cycles == most.cycles;
@@ -125,17 +152,19 @@ void desk_quotes(void)
 /* A run in which everyone does as chance has it, near to the worst; no wait is over the bound. */
 static void searched(struct rng *g, unsigned slot, unsigned limit)
 {
-    static const uint8_t words[] = {1, 1, 1, 1, 0, 2, 16};
+    static const uint8_t words[] = {16, 16, 16, 1, 0, 2, 16};
     struct wait most = bound(slot, limit), w = {0, 0};
     struct bus b;
     struct node nodes[SLOTS];
     uint32_t wanting = 50 + rng_below(g, 51), holding = 50 + rng_below(g, 51),
-             ending = rng_chance(g, 50) ? 0 : rng_below(g, 20), pausing = rng_below(g, 8);
+             ending = rng_chance(g, 50) ? 0 : rng_below(g, 20), pausing = rng_below(g, 8),
+             leaving_out = 20 + rng_below(g, 81);
     int asking = 0, good = 1;
     bus_fresh(&b, limit);
     all(nodes, quiet);
     for (uint64_t cycle = 0; cycle < 3 * most.cycles && good; cycle++) {
         struct bus before = b;
+        int event = slowest(&b);
         for (unsigned i = 0; i < SLOTS; i++)
             if (i != slot && rng_chance(g, 10))
                 nodes[i] = (struct node){(uint8_t)rng_chance(g, wanting), (uint8_t)rng_chance(g, holding),
@@ -145,8 +174,12 @@ static void searched(struct rng *g, unsigned slot, unsigned limit)
             w = (struct wait){0, 0};
         }
         nodes[slot] = asking ? asks : quiet;
-        struct answer a = step(&b, nodes, before.open && rng_chance(g, ending) ? FINISH : NOTHING);
-        w.cycles++;
+        if (before.open && rng_chance(g, ending))
+            event = rng_chance(g, 50) ? FINISH : STROBE;
+        struct answer a = step(&b, nodes, event);
+        uint64_t left_out = event == NOTHING && rng_chance(g, leaving_out) ? waiting(&b, &before, &a) : 0;
+        w.cycles += 1 + left_out;
+        cycle += left_out;
         if (a.start && a.starter == slot)
             asking = 0;
         else
@@ -179,7 +212,8 @@ static const struct {
     {"16 0", "refused 2\n"}, {"16 17", "refused 2\n"}, {"256 4294967300", "refused 2\n"},
     {"1000000000000000000000000000000 1000000000000000000000000000000", "refused 2\n"},
     {"000 000", "refused 3\n"}, {"0016 0", "refused 2\n"},
-    {"007 0004", "slot 7 limit 4 others 93 cycles 23902 seconds 0.0023902\n"},
+    /* (30 - 7) x 4 and one are 93 STARTs, 93 x 4,097 and the parked one's cycle 381,022. */
+    {"007 0004", "slot 7 limit 4 others 93 cycles 381022 seconds 0.0381022\n"},
     {"", ""}, {"3", ""}, {"3 4 5", ""}, {"3 4 ''", ""}, {"'' 4", ""}, {"3 ''", ""}, {"x 4", ""},
     {"3 x", ""}, {"-3 4", ""}, {"3 -4", ""}, {"+3 4", ""}, {"3 +4", ""}, {"0x3 4", ""}, {"3 4x", ""},
     {"x3 4", ""}, {"3.0 4", ""}, {"' 3' 4", ""}, {"'3 ' 4", ""}, {"'3 4'", ""}, {"3/4", ""},

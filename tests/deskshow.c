@@ -42,7 +42,7 @@ static void some_recording(struct rng *g, struct maker *m)
     switch (rng_below(g, 6)) {
     case 0: traffic_bus(m, records); break;
     case 1: traffic_wild(m, records); break;
-    case 2: traffic_owners(m, records, 1); break;
+    case 2: traffic_owners(m, records, LATE_ABORTS); break;
     case 3: damage(m, 1 + (int)rng_below(g, 13), 0); break;
     case 4: any_bytes(m, records); break;
     default:

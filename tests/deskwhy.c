@@ -7,7 +7,7 @@
 #include "desk.h"
 
 static unsigned long by_rule[14], by_kind[KINDS], by_limit[17], conforming, torn, found_long, found_longest,
-    same_stamp, far_stamp, too_many_strobes, too_few_strobes, parity[2], longest_spare;
+    same_stamp, far_stamp, too_many_strobes, too_few_strobes, parity[2], longest_spare, behind_strobe[2];
 
 /* What is to be printed: the judge's lines by its state, what was found by looking back. */
 static int expected(const void *with, const uint8_t *bytes, size_t len, char *text)
@@ -53,6 +53,18 @@ static void cover(const char *text, unsigned limit)
     longest_spare += rule == 1 && found >= 16384;
 }
 
+/* Rules 4 and 12 behind a strobe: what is found for 12 counts from it, for 4 from the START (02, wish 5). */
+static void cover_strobes(const struct buffer *in, unsigned limit)
+{
+    struct judge j;
+    struct tally t = {0};
+    struct verdict v;
+    judge_fresh(&j, limit);
+    judge_recording(&j, &t, in->bytes, in->len / RECORD * RECORD, &v);
+    behind_strobe[0] += v.rule == 4 && j.strobes > 0;
+    behind_strobe[1] += v.rule == 12 && j.strobes > 0;
+}
+
 static void compare_why(struct buffer *in, unsigned limit, struct feed feed, const char *what)
 {
     char line[4096], words[32], text[MOST_TEXT];
@@ -61,6 +73,7 @@ static void compare_why(struct buffer *in, unsigned limit, struct feed feed, con
     struct said right = {{0}, NULL};
     expected(&limit, in->bytes, in->len, text);
     cover(text, limit);
+    cover_strobes(in, limit);
     buffer_say(&right.out, "%s", text);
     snprintf(words, sizeof words, " %u", limit);
     snprintf(line, sizeof line, "%s%s", desk.why, words);
@@ -119,6 +132,18 @@ static void long_silent(struct rng *g)
         r.tm1 = r.tm0 = 1;
         maker_add_raw(&m, &r, 0);
         one(g, &m, limit, "a transfer that is open for too long");
+    }
+}
+
+/* Words that come late, and a record at the edge behind them (02, wish 5). */
+static void slow_words(struct rng *g)
+{
+    for (int i = 0; i < desk.count; i++) {
+        struct maker m;
+        unsigned limit = 1 + rng_below(g, 16);
+        maker_start(&m, g, limit);
+        traffic_slow(&m, (unsigned)i);
+        one(g, &m, limit, "words that come late");
     }
 }
 
@@ -214,6 +239,7 @@ void desk_whys(struct rng *g)
         for (int kind = rule == 8 ? 1 : 0; kind < (rule == 8 ? (int)KINDS : 1); kind++)
             broken(g, rule, kind);
     long_silent(g);
+    slow_words(g);
     spares(g);
     sound(g);
     long_ones(g);
@@ -238,6 +264,9 @@ void desk_whys_met(void)
            "many %lu, too few %lu; rule 3 right 0 %lu, 1 %lu; the highest spare bit %lu\n",
            found_long, found_longest, same_stamp, far_stamp, too_many_strobes, too_few_strobes, parity[0],
            parity[1], longest_spare);
+    printf("behind a strobe: rule 4 %lu, rule 12 %lu\n", behind_strobe[0], behind_strobe[1]);
+    desk_met("rule 4 behind a strobe", behind_strobe[0]);
+    desk_met("rule 12 behind a strobe", behind_strobe[1]);
     desk_met("an age over 2^16", found_long);
     desk_met("an age over 2^31", found_longest);
     desk_met("the stamp before", same_stamp);

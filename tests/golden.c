@@ -1,6 +1,6 @@
 /* Golden cases: 01's checked examples with answers written down by hand, not by the model, and
    small recordings for each rule with a near twin that conforms, for what a breach tells, for boot
-   reports, for accounts and for byte lanes.
+   reports, for accounts, for byte lanes and for the watchdog.
 
    golden [--judge COMMAND] [--calls COMMAND] [--phases COMMAND] [--accounts COMMAND] */
 #define _DEFAULT_SOURCE 1
@@ -12,7 +12,7 @@
 
 static unsigned long passed, failed;
 
-enum { STEPS = 900 };
+enum { STEPS = 7000, MOST_TOLD = 40 };
 static struct step steps[STEPS];
 static size_t count;
 
@@ -242,6 +242,7 @@ static void through_calls(const char *command)
     golden_breach_calls();
     golden_account_calls();
     golden_lane_calls();
+    golden_watchdog_calls();
     for (size_t i = 0; i < count; i++)
         buffer_add(&in, steps[i].call, CALL);
     run_bytes(command, in.bytes, in.len, feed, 60, &r);
@@ -252,7 +253,8 @@ static void through_calls(const char *command)
         passed += same ? 1 : 0;
         if (same)
             continue;
-        failed++;
+        if (++failed > MOST_TOLD)
+            continue; /* counted, and not told */
         printf("%s: call %lu: ", steps[i].name, (unsigned long)i);
         say_call(stdout, steps[i].call);
         printf("\n  expected ");
@@ -290,13 +292,15 @@ int main(int argc, char **argv)
         if (strcmp(argv[i], "--judge") == 0) {
             golden_rules(argv[i + 1]);
             golden_breaches(argv[i + 1]);
+            golden_watchdog(argv[i + 1]);
         } else if (strcmp(argv[i], "--calls") == 0)
             through_calls(argv[i + 1]);
         else if (strcmp(argv[i], "--phases") == 0)
             golden_phases(argv[i + 1]);
-        else if (strcmp(argv[i], "--accounts") == 0)
+        else if (strcmp(argv[i], "--accounts") == 0) {
             golden_accounts(argv[i + 1]);
-        else
+            golden_watchdog_accounts(argv[i + 1]);
+        } else
             break;
     }
     printf("golden: %lu passed, %lu failed\n", passed, failed);

@@ -31,6 +31,18 @@ void golden_expect_judging(struct step *s, const char *answer);
 /* The words of a call that sets something: 19, 21, 22 or 25. */
 void golden_setting(struct step *s, const char *words);
 
+/* Calls on one judge with its tally and account, in order (goldenentries.c says how they are told). */
+struct account_call {
+    const char *name;
+    int op;
+    const char *words, *answer;
+    int lent, less; /* less: bytes of the last record that are missing */
+};
+void golden_put_calls(const struct account_call *list, size_t count);
+/* A recording for the accounts' program; the slots are told as 'slot STARTs busy', the others have 0 and 0. */
+void golden_accounted(const char *program, const char *name, const uint8_t *bytes, size_t len,
+                      const char *totals, const char *verdict, const char *slots);
+
 void golden_rules(const char *command);
 void golden_breaches(const char *command);
 void golden_breach_calls(void);
@@ -38,4 +50,7 @@ void golden_phases(const char *program);
 void golden_accounts(const char *program);
 void golden_account_calls(void);
 void golden_lane_calls(void);
+void golden_watchdog(const char *command);
+void golden_watchdog_accounts(const char *program);
+void golden_watchdog_calls(void);
 #endif

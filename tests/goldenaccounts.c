@@ -184,8 +184,8 @@ static void slot_lines(const char *slots, char *text, size_t room)
                                busy[k]);
 }
 
-static void one(const char *program, const char *name, const uint8_t *bytes, size_t len,
-                const char *totals, const char *verdict, const char *slots)
+void golden_accounted(const char *program, const char *name, const uint8_t *bytes, size_t len,
+                      const char *totals, const char *verdict, const char *slots)
 {
     char text[LINES], told[200];
     golden_text(totals, verdict, text);
@@ -215,7 +215,7 @@ static void all_slots(const char *program)
         at += 4 + 2 * k;
     }
     size_t len = golden_tell(words, bytes);
-    one(program, "all sixteen slots", bytes, len, "184 303 136 136 0 0", "conforming", slots);
+    golden_accounted(program, "all sixteen slots", bytes, len, "184 303 136 136 0 0", "conforming", slots);
 }
 
 void golden_accounts(const char *program)
@@ -224,8 +224,8 @@ void golden_accounts(const char *program)
     for (size_t i = 0; i < sizeof cases / sizeof cases[0]; i++) {
         memset(bytes, 0, sizeof bytes);
         long len = (long)golden_tell(cases[i].records, bytes) + cases[i].more;
-        one(program, cases[i].name, bytes, (size_t)len, cases[i].totals, cases[i].verdict,
-            cases[i].slots);
+        golden_accounted(program, cases[i].name, bytes, (size_t)len, cases[i].totals, cases[i].verdict,
+                         cases[i].slots);
     }
     all_slots(program);
 }

@@ -13,13 +13,6 @@
    the records, and 23 has the entries lent behind. An answer of 24 is its refusal, STARTs and busy cycles;
    one of 20 or 23 its refusal, rule, kind, record, span at the breach and the six totals. Every other
    byte is 0. */
-struct account_call {
-    const char *name;
-    int op;
-    const char *words, *answer;
-    int lent, less; /* less: bytes of the last record that are missing */
-};
-
 static const struct account_call counted[] = {
     {"nothing counted yet", 24, "7 16", "0 0 0", 0, 0},
     {"in parts", 19, "16", "0", 0, 0},
@@ -254,7 +247,7 @@ static const struct account_call raw_states[] = {
     {"anew, 11 and the ACK's", 24, "3 16", "0 1 12", 0, 0},
 };
 
-static void put_calls(const struct account_call *list, size_t count)
+void golden_put_calls(const struct account_call *list, size_t count)
 {
     static const int two[] = {1, 1};
     for (size_t i = 0; i < count; i++) {
@@ -279,7 +272,7 @@ static void put_calls(const struct account_call *list, size_t count)
 
 void golden_account_calls(void)
 {
-    put_calls(counted, sizeof counted / sizeof counted[0]);
-    put_calls(bounds, sizeof bounds / sizeof bounds[0]);
-    put_calls(raw_states, sizeof raw_states / sizeof raw_states[0]);
+    golden_put_calls(counted, sizeof counted / sizeof counted[0]);
+    golden_put_calls(bounds, sizeof bounds / sizeof bounds[0]);
+    golden_put_calls(raw_states, sizeof raw_states / sizeof raw_states[0]);
 }

@@ -48,6 +48,19 @@ static const struct {
     {"past the watchdog", "16 3/4", WAVE "2 " START_34 "; 103 K T t",
      "records 3\nbreach rule 12 record 3 span 259\n", 0},
 
+    /* A block with late words before the mark (document 02, wish 5): the strobe in 102h and the ACK in 202h are at
+       age 256, the mark's START, parked, in 203h, 515. A cycle later each breaks rule 12. TM0 restarts nothing
+       in the mark's own transfer. */
+    {"behind a block with late words", "16 3/4", WAVE "2 S d2; 102 t; 202 K T t; 203 " START_34 "; 204 K T t",
+     "mark 0 span 515\nrecords 7\ncomplete\n", 0},
+    {"behind a strobe at 257", "16 3/4", WAVE "2 S d2; 103 t; 202 K T t; 203 " START_34 "; 204 K T t",
+     "records 3\nbreach rule 12 record 3 span 259\n", 0},
+    {"behind an ACK at 257 from the strobe", "16 3/4",
+     WAVE "2 S d2; 102 t; 203 K T t; 204 " START_34 "; 205 K T t",
+     "records 4\nbreach rule 12 record 4 span 515\n", 0},
+    {"TM0 in a mark past the watchdog", "16 3/4", WAVE "2 " START_34 "; 3 t; 103 K T t",
+     "records 4\nbreach rule 12 record 4 span 259\n", 0},
+
     /* The number is in AD5 to AD2: 4 in AD9 to AD6 is F3000100, and that is number 0. */
     {"the number in AD6", "16 3/4", WAVE "2 S T dF3000100; 4 K T t", NONE_IN_4, 0},
     {"the number in AD6 is 0", "16 3/0", WAVE "2 S T dF3000100; 4 K T t", FOUND, 0},

@@ -1,6 +1,7 @@
-/* The judge of recordings (01, "The judge"; 02, wish 2). Each rule is worked out by itself from the
-   state before the record and the record; the lowest broken one is told. For the accounts of wish 3
-   the state keeps the owner's slot and how long the open transfer has been busy. */
+/* The judge of recordings (01, "The judge"; 02, wishes 2 and 5). Each rule is worked out by itself from
+   the state before the record and the record; the lowest broken one is told. For the accounts of wish 3
+   the state keeps the owner's slot and how long the open transfer has been busy, which since wish 5 isn't
+   its age. */
 #include <stdio.h>
 #include "spur.h"
 
@@ -157,7 +158,9 @@ static void take_wave(struct judge *j, const struct record *r, const struct view
     j->rqst1 = r->rqst;
 }
 
-/* What the transfer becomes, and the counts of STARTs and ACKs. */
+/* What the transfer becomes, and the counts of STARTs and ACKs. A strobe that breaks no rule takes an owed
+   word, one too many being a breach of rule 13, so each restarts the age (02, wish 5); the busy time goes
+   on. */
 static void take_transfer(struct judge *j, struct tally *t, const struct record *r,
                           const struct view *v)
 {
@@ -178,8 +181,10 @@ static void take_transfer(struct judge *j, struct tally *t, const struct record 
     } else if (j->open) {
         j->age = (uint16_t)v->age;
         j->busy += v->diff;
-        if (j->words > 1 && r->tm0)
+        if (j->words > 1 && r->tm0) {
             j->strobes++;
+            j->age = 0;
+        }
     }
 }
 

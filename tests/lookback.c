@@ -1,7 +1,7 @@
 /* The judge's rules a second time, said of the recording alone: every cycle stands in an array,
    missing ones included, and what came before is found by looking back; spans are found by counting
    the stamps' wraps. It is slow, for short recordings, and serves to check the model's judge (01,
-   "The judge"; 02, wish 2). */
+   "The judge"; 02, wishes 2 and 5). */
 #include <stdlib.h>
 #include "lookback.h"
 
@@ -11,7 +11,7 @@ struct cycles {
 };
 /* Of more missing cycles than these only so many stand in the array. No rule sees it: a transfer
    open before them is over age, a wave has fallen, and its STARTs are long past. */
-enum { LONG_GAP = 600, MOST = 60000 };
+enum { LONG_GAP = 600, MOST = 120000 };
 
 static int is_open_start(const struct record *r)
 {
@@ -114,15 +114,32 @@ static int rule_11(const struct cycles *c, long n, unsigned limit)
     return run > limit;
 }
 
+static int words_of(const struct record *r)
+{
+    struct decoded start;
+    code_decode(&start, r->tm1, r->tm0, r->ad);
+    return code_words(start.op.unit);
+}
+
+/* The cycle from which the transfer's age counts: its last strobe's, if it is a block and has had one,
+   else its START's (02, wish 5). TM0 in a single transfer is no strobe. */
+static long restarted(const struct cycles *c, long n, long opened)
+{
+    long k = n - 1;
+    if (words_of(&c->at[opened]) == 1)
+        return opened;
+    while (k > opened && !c->at[k].tm0)
+        k--;
+    return k;
+}
+
 static int rule_13(const struct cycles *c, long n, long opened)
 {
     const struct record *r = &c->at[n];
-    struct decoded start;
     int strobes = 0, words;
     if (opened < 0 || r->start)
         return 0;
-    code_decode(&start, c->at[opened].tm1, c->at[opened].tm0, c->at[opened].ad);
-    words = code_words(start.op.unit);
+    words = words_of(&c->at[opened]);
     for (long k = opened + 1; k < n; k++)
         strobes += c->at[k].tm0;
     if (words == 1)
@@ -165,7 +182,7 @@ static int lowest(const struct cycles *c, long n, unsigned limit)
         if (rule_11(c, n, limit))
             return 11;
     }
-    if (opened >= 0 && n - opened > WATCHDOG)
+    if (opened >= 0 && n - restarted(c, n, opened) > WATCHDOG)
         return 12;
     return rule_13(c, n, opened) ? 13 : 0;
 }

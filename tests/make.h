@@ -37,11 +37,17 @@ void record_spare_write(const struct record *r, unsigned spare, uint8_t *bytes);
 void traffic_bus(struct maker *m, size_t records);
 void traffic_boot(struct maker *m, size_t records);
 void traffic_wild(struct maker *m, size_t records);
-/* Made for the accounts; with late aborts, so that a slot may be busy for 2^32 cycles or more. */
-void traffic_owners(struct maker *m, size_t records, int late);
+/* Made for the accounts; with late aborts, so that a slot may be busy for 2^32 cycles or more, or with late
+   words, so that a transfer may be for 4,097 (document 02, wish 5). */
+enum owners { PLAIN_OWNERS, LATE_ABORTS, LATE_WORDS };
+void traffic_owners(struct maker *m, size_t records, enum owners how);
+/* Made for the watchdog, with one of so many endings; some break a rule in their last record. */
+enum { SLOW_ENDINGS = 24 };
+void traffic_slow(struct maker *m, unsigned ending);
 void wild_propose(struct maker *m, struct record *r, unsigned *spare, unsigned chaos);
 int wild_setup(struct maker *m, int rule); /* brings the judge near the rule; 1 if it could */
 int wild_early(struct maker *m, int kind); /* near the kind of rule 8 */
+int wild_open(struct maker *m, int unit, int rqst); /* opens a transfer in a wave; 1 if it could */
 void wild_far(struct maker *m, uint32_t records); /* each as far from the last as rule 2 allows */
 void noise(struct rng *g, struct record *r);
 

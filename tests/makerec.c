@@ -12,6 +12,8 @@
    makerec wild RECORDS SEED     whatever conforms
    makerec owners RECORDS SEED   made for the accounts (02, wish 3), conforming
    makerec late RECORDS SEED     the same, with a slot busy for 2^32 cycles or more
+   makerec slow RECORDS SEED     the same, with words as late as rule 12 allows (02, wish 5)
+   makerec watchdog ENDING SEED  a few transfers with such words and one of 24 endings, some a breach
    makerec damage RULE SEED      a recording whose first breach is of the rule */
 #define _DEFAULT_SOURCE 1
 #include <stdio.h>
@@ -171,16 +173,20 @@ int main(int argc, char **argv)
     } else if (strcmp(what, "wild") == 0) {
         g.state = b;
         traffic_wild(&m, a);
-    } else if (strcmp(what, "owners") == 0 || strcmp(what, "late") == 0) {
+    } else if (strcmp(what, "owners") == 0 || strcmp(what, "late") == 0 || strcmp(what, "slow") == 0) {
         g.state = b;
-        traffic_owners(&m, a, what[0] == 'l');
+        traffic_owners(&m, a, what[0] == 'l' ? LATE_ABORTS : what[0] == 's' ? LATE_WORDS : PLAIN_OWNERS);
+    } else if (strcmp(what, "watchdog") == 0) {
+        g.state = b;
+        traffic_slow(&m, (unsigned)a);
     } else if (strcmp(what, "damage") == 0 && rule > 0) {
         g.state = b;
         damage(&m, rule, kind);
     } else {
         fprintf(stderr, "makerec boot RECORDS | breach RECORDS RULE | phases RECORDS | "
                         "marked CROWD SEED S/N .. | sound RECORDS SEED | wild RECORDS SEED | "
-                        "owners RECORDS SEED | late RECORDS SEED | damage RULE SEED\n");
+                        "owners RECORDS SEED | late RECORDS SEED | slow RECORDS SEED | watchdog ENDING SEED | "
+                        "damage RULE SEED\n");
         return 2;
     }
     if (fwrite(m.out.bytes, 1, m.out.len, stdout) != m.out.len || fflush(stdout) != 0) {

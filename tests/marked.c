@@ -148,14 +148,15 @@ static void reset(struct maker *m, int start_line, int ack, struct code c)
 
 static void ack(struct maker *m, int status)
 {
-    uint32_t strobes = m->j.words - 1u, room = WATCHDOG - strobes - 1;
+    uint32_t strobes = m->j.words - 1u, room = WATCHDOG - 1;
+    int slow = rng_chance(m->g, 10); /* words as late as they may be (document 02, wish 5) */
     for (; strobes > 0 && (status == SUCCESS || rng_chance(m->g, 50)); strobes--) {
-        struct record s = following(m, 0);
+        struct record s = following(m, slow && !m->j.rqst1 ? room : 0);
         s.tm0 = 1;
         s.ad = rng_word(m->g);
         add(m, &s);
     }
-    uint32_t missing = pass(m, rng_chance(m->g, 10) ? room : rng_below(m->g, 4));
+    uint32_t missing = pass(m, slow || rng_chance(m->g, 10) ? room : rng_below(m->g, 4));
     struct record r = following(m, missing);
     r.ack = 1;
     r.tm1 = (uint8_t)(status >> 1);

@@ -5,7 +5,7 @@
 
    A command is one string for the shell. Without --seed there are two passes, with the fixed
    seed and with a fresh one. N is the share: N damaged recordings for each of the thirteen rules
-   (N for each of rule 8's three kinds), 5 N sound ones and N/10 lists of 3,000 calls for each subject
+   (N for each of rule 8's three kinds), 5 N sound ones, 3 N for the watchdog and N/10 lists of 3,000 calls for each subject
    (twice as many for the bus, the judge and the accounts), in each pass; with the fixed seed also
    every code and every contest. The accounts' program gets every fifth of the judging program's
    recordings, or all where that isn't given, and N that are made for it. With --status the
@@ -19,6 +19,7 @@
 #include <unistd.h>
 #include "accountsmet.h"
 #include "compare.h"
+#include "watchdogmet.h"
 
 enum { CALLS_A_LIST = 3000, FIXED_SEED = 19861023, MOST_REPORTS = 5, MOST_LINES = 30, ENOUGH = 10,
        SHARED = 5 }; /* of the recordings one in so many is the accounts' program's too */
@@ -118,6 +119,7 @@ static void one_recording(struct rng *g, struct buffer *in, const char *what, un
     if (rng_chance(g, 10))
         tear(g, in);
     int account = options.accounts != NULL && (options.judge == NULL || turn++ % SHARED == 0);
+    watchdog_meet(in, NO_LIMIT_GIVEN);
     struct buffer kept = {0};
     buffer_add(&kept, in->bytes, in->len);
     if (options.judge != NULL)
@@ -207,18 +209,33 @@ static void long_damaged(struct rng *g, unsigned long seed)
     }
 }
 
+/* Recordings made for the watchdog (02, wish 5), in each of their endings by turns. */
+static void slow(struct rng *g, unsigned long seed)
+{
+    for (int i = 0; i < 3 * options.count; i++) {
+        struct maker m;
+        maker_start(&m, g, NO_LIMIT_GIVEN);
+        if (rng_chance(g, 50))
+            traffic_wild(&m, rng_below(g, 30));
+        traffic_slow(&m, (unsigned)i);
+        one_recording(g, &m.out, "slow words' recording", seed);
+        buffer_free(&m.out);
+    }
+}
+
 /* Recordings made for the accounts, some of them broken behind: the entries are of what came before. */
 static void owners(struct rng *g, unsigned long seed)
 {
-    for (int i = 0; i < options.count; i++) {
+    for (int i = 0; i < options.count + options.count / 5; i++) { /* the last have late words */
         struct maker m;
-        int late = i % 8 == 0;
+        enum owners how = i >= options.count ? LATE_WORDS : i % 8 == 0 ? LATE_ABORTS : PLAIN_OWNERS;
         maker_start(&m, g, NO_LIMIT_GIVEN);
-        traffic_owners(&m, (late ? 200 : 0) + rng_below(g, rng_chance(g, 10) ? 3000 : 200), late);
+        traffic_owners(&m, (how != PLAIN_OWNERS ? 200 : 0) + rng_below(g, rng_chance(g, 10) ? 3000 : 200), how);
         if (rng_chance(g, 30))
             damage(&m, 1 + (int)rng_below(g, 13), 0);
         if (rng_chance(g, 10))
             tear(g, &m.out);
+        watchdog_meet(&m.out, NO_LIMIT_GIVEN);
         accounted(g, &m.out, "owners' recording", seed);
         buffer_free(&m.out);
     }
@@ -268,6 +285,7 @@ static void pass(unsigned long seed)
         damaged(&g, seed);
         sound(&g, seed);
         long_damaged(&g, seed);
+        slow(&g, seed);
     }
     if (options.accounts != NULL)
         owners(&g, seed);
@@ -325,6 +343,25 @@ static void lanes_met(void)
     failed++;
 }
 
+/* In the watchdog's 256th cycle each event is to be met, with a word beside the last owed and without (02,
+   wish 5). */
+static void due_met(void)
+{
+    static const char *const events[] = {"nothing", "strobes", "finishes"};
+    unsigned long least = covered.before_due;
+    printf("in the 256th cycle:");
+    for (int event = NOTHING; event <= FINISH; event++) {
+        printf(" %s %lu (with one word owed %lu)", events[event], covered.due[event][1], covered.due[event][0]);
+        for (int more = 0; more < 2; more++)
+            least = covered.due[event][more] < least ? covered.due[event][more] : least;
+    }
+    printf("; strobes taken in the cycle before %lu\n", covered.before_due);
+    if (options.count < ENOUGH || least > 0)
+        return;
+    printf("FAILED: something in the watchdog's 256th cycle was never met\n");
+    failed++;
+}
+
 static void calls_met(void)
 {
     printf("calls %lu, of which not settled by the paper %lu\n", covered.calls + covered.skipped,
@@ -346,6 +383,7 @@ static void calls_met(void)
     printf("; at a span of 2^32 or more %lu\n", covered.far);
     printf("notes: none %lu short %lu extra %lu stray %lu; no operation: %lu\n", covered.notes[0],
            covered.notes[1], covered.notes[2], covered.notes[3], covered.refusals[255]);
+    due_met();
     lanes_met();
     met("calls", covered.kinds, covered.far);
 }
@@ -359,8 +397,18 @@ static void accounts_met(void)
     failed++;
 }
 
+static void watchdogs_met(void)
+{
+    if (watchdog_met() || options.count < ENOUGH)
+        return;
+    printf("FAILED: something of the watchdog was never met in recordings\n");
+    failed++;
+}
+
 static void summary(void)
 {
+    if (options.judge != NULL || options.accounts != NULL)
+        watchdogs_met();
     if (options.judge != NULL)
         recordings_met();
     if (options.accounts != NULL)

@@ -1,6 +1,7 @@
 /* Sound recordings made for the accounts (document 02, wish 3): waves whose STARTs show any slot,
    parked STARTs under any ARB, in the cycle in which a wave begins too, attention cycles, transfers
-   with cycles missing and over a wrap of the stamp, and RESETs at any time after a START. Some have two
+   with cycles missing and over a wrap of the stamp, RESETs at any time after a START, and some whose words
+   come as late as they may. Some have two
    masters alone and RESETs as late as can be, so that a slot is busy for more than 2^32 cycles. */
 #include "make.h"
 
@@ -8,6 +9,7 @@
 struct manner {
     uint32_t lowest, slots; /* those that ever start in a wave */
     int late;               /* RESETs are */
+    uint32_t slow;          /* the chance in a hundred that a word comes as late as it may */
 };
 
 /* The cycle so many after the last record's, RQST being as it was. */
@@ -16,10 +18,12 @@ static struct record later(const struct maker *m, uint32_t cycles)
     return (struct record){.stamp = m->j.stamp + cycles, .rqst = m->j.rqst1};
 }
 
-/* A START: an attention cycle, or a transfer of any unit. */
-static void drive_start(struct rng *g, struct record *r)
+/* A START: an attention cycle, or a transfer of any unit; with slow words the longest often. */
+static void drive_start(struct rng *g, const struct manner *how, struct record *r)
 {
     struct operation op = {(uint8_t)rng_below(g, 2), (uint8_t)rng_below(g, UNITS), rng_word(g)};
+    if (rng_chance(g, how->slow / 2))
+        op.unit = BLOCK16;
     r->start = 1;
     if (rng_chance(g, 30)) {
         r->ack = r->tm1 = r->tm0 = 1;
@@ -51,6 +55,18 @@ static uint32_t some_gap(struct rng *g)
     }
 }
 
+/* The next word of a block, or the end where all are there, as late as rule 12 allows: sixteen words so are
+   4,097 busy cycles (document 02, wish 5). */
+static void late_word(struct maker *m)
+{
+    struct record r = later(m, m->j.rqst1 ? 1 : WATCHDOG - m->j.age);
+    r.tm0 = 1;
+    r.tm1 = (uint8_t)rng_below(m->g, 2);
+    if (m->j.strobes + 1 == m->j.words)
+        r.ack = r.tm1 = 1;
+    maker_try(m, &r, 0);
+}
+
 static uint8_t some_slot(struct rng *g, const struct manner *how)
 {
     return (uint8_t)(how->lowest + rng_below(g, how->slots));
@@ -62,6 +78,10 @@ static void go_on(struct maker *m, const struct manner *how)
 {
     struct rng *g = m->g;
     uint32_t most = WATCHDOG - m->j.age, cycles = rng_chance(g, 60) ? 1 : 1 + rng_below(g, most + 1);
+    if (most > 0 && rng_chance(g, how->slow)) {
+        late_word(m);
+        return;
+    }
     if (rng_chance(g, 15)) {
         reset_after(m, how->late ? ((uint32_t)1 << 31) - rng_below(g, 3) : some_gap(g));
         return;
@@ -94,15 +114,15 @@ static void in_wave(struct maker *m, const struct manner *how)
     if (m->j.turn > 0 && m->j.turn < m->j.limit && rng_chance(g, 40))
         r.arb = m->j.arb;
     if (may && rng_chance(g, 80)) {
-        drive_start(g, &r);
-        r.rqst = (uint8_t)rng_chance(g, 40);
+        drive_start(g, how, &r);
+        r.rqst = (uint8_t)rng_chance(g, how->slow > 0 ? 10 : 40);
     }
     maker_try(m, &r, 0);
 }
 
 /* Nothing is open and no wave is on: the owner starts, whatever ARB shows, a wave begins, or both; or
    time passes. Now and then it is right before the stamp's wrap. */
-static void when_idle(struct maker *m)
+static void when_idle(struct maker *m, const struct manner *how)
 {
     struct rng *g = m->g;
     struct record r = later(m, some_gap(g));
@@ -110,20 +130,22 @@ static void when_idle(struct maker *m)
     if (rng_chance(g, 15)) /* as far on as can be, or to the wrap if that is nearer */
         r.stamp = m->j.stamp >> 31 ? 0u - 1 - rng_below(g, 5) : m->j.stamp + ((uint32_t)1 << 31);
     if (m->j.started && rng_chance(g, 60)) {
-        drive_start(g, &r);
-        r.rqst = (uint8_t)rng_chance(g, 30);
+        drive_start(g, how, &r);
+        r.rqst = (uint8_t)rng_chance(g, how->slow > 0 ? 10 : 30);
     } else if (rng_chance(g, 70)) {
         r.rqst = 1;
     }
     maker_try(m, &r, 0);
 }
 
-void traffic_owners(struct maker *m, size_t records, int late)
+void traffic_owners(struct maker *m, size_t records, enum owners owners)
 {
     size_t want = m->out.len + records * RECORD;
-    struct manner how = {0, SLOTS, late};
-    if (late)
-        how = (struct manner){rng_below(m->g, SLOTS - 1), 2, 1};
+    struct manner how = {0, SLOTS, 0, 0};
+    if (owners == LATE_ABORTS)
+        how = (struct manner){rng_below(m->g, SLOTS - 1), 2, 1, 0};
+    else if (owners == LATE_WORDS)
+        how.slow = 94 + rng_below(m->g, 7);
     if (!m->j.has_stamp)
         m->j.stamp = rng_chance(m->g, 50) ? 0u - rng_below(m->g, 40) : rng_word(m->g);
     while (m->out.len < want) {
@@ -133,7 +155,7 @@ void traffic_owners(struct maker *m, size_t records, int late)
         else if (m->j.rqst1)
             in_wave(m, &how);
         else
-            when_idle(m);
+            when_idle(m, &how);
         if (m->out.len == before || rng_chance(m->g, 1))
             reset_after(m, 1);
     }

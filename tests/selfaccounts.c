@@ -137,7 +137,8 @@ unsigned long selfaccounts(int count, struct rng *g, unsigned long *differ)
         struct maker m;
         unsigned limit = 1 + rng_below(g, 16);
         maker_start(&m, g, limit);
-        traffic_owners(&m, 10 + rng_below(g, 150), i % 8 == 0);
+        traffic_owners(&m, 10 + rng_below(g, 150),
+                       i % 8 == 0 ? LATE_ABORTS : i % 8 == 4 ? LATE_WORDS : PLAIN_OWNERS);
         apart += !selfaccounts_check(g, &m.out, limit, m.out.len / RECORD);
         buffer_free(&m.out);
         apart += !as_stepped(g, limit);

@@ -1,7 +1,7 @@
 /* The model against itself: its judge against the rules said of the recording alone, on sound,
    wild and damaged recordings, none of which breaks 8b and 8c at once; the stepper's traffic against
-   the judge (the maker stops the program where that breaks a rule); its accounts, its boot report and
-   its byte lanes against a second way.
+   the judge (the maker stops the program where that breaks a rule); its accounts, its boot report, its
+   byte lanes and the stepper's watchdog against a second way.
 
    selftest [COUNT [SEED]] */
 #include <stdio.h>
@@ -11,6 +11,8 @@
 #include "selfaccounts.h"
 #include "selflanes.h"
 #include "selfmarks.h"
+#include "selfwatchdog.h"
+#include "watchdogmet.h"
 
 enum { ENOUGH = 50 }; /* a count at which everything is to be met */
 static unsigned long compared, differ, rules[14], kinds[KINDS], far, too_long;
@@ -47,6 +49,7 @@ static void check(const struct maker *m, unsigned limit)
     judge_fresh(&j, limit);
     judge_recording(&j, &t, m->out.bytes, m->out.len, &v);
     compared++;
+    watchdog_meet(&m->out, limit);
     rules[v.rule]++;
     kinds[v.kind]++;
     far += v.span >> 32 != 0;
@@ -59,13 +62,15 @@ static void check(const struct maker *m, unsigned limit)
     say("looking back", &l.v, &l.t, l.open);
 }
 
-/* Sound, wild and damaged recordings under any limit; rule 8 has three kinds. */
+/* Sound, wild and damaged recordings under any limit, and the accounts'; rule 8 has three kinds. */
 static void some_recording(struct maker *m, int which)
 {
     if (which >= 1 && which <= 13)
         damage(m, which, 0);
     else if (which > 17)
         damage(m, 8, which - 17);
+    else if (which == 16)
+        traffic_owners(m, 100, rng_chance(m->g, 50) ? LATE_WORDS : PLAIN_OWNERS);
     else if (which % 2)
         traffic_bus(m, 300);
     else
@@ -85,6 +90,8 @@ static void summary(int count)
            "%lu\n", kinds[NO_OWNER], kinds[TOO_FEW], kinds[TOO_SOON], far, too_long);
     for (int k = 1; k < KINDS; k++)
         least = kinds[k] < least ? kinds[k] : least;
+    if (!watchdog_met())
+        least = 0;
     if (count >= ENOUGH && least == 0) {
         printf("something of these was never met\n");
         differ++;
@@ -96,11 +103,14 @@ int main(int argc, char **argv)
     int count = argc > 1 ? atoi(argv[1]) : 100;
     struct rng g = {argc > 2 ? strtoul(argv[2], NULL, 0) : 1};
     for (int i = 0; i < count; i++)
-        for (int which = 0; which < 17 + KINDS; which++) {
+        for (int which = 0; which <= 17 + KINDS; which++) {
             struct maker m;
             unsigned limit = 1 + rng_below(&g, rng_chance(&g, 50) ? 3 : 16);
             maker_start(&m, &g, limit);
-            some_recording(&m, which);
+            if (which == 17 + KINDS)
+                traffic_slow(&m, (unsigned)i);
+            else
+                some_recording(&m, which);
             check(&m, limit);
             buffer_free(&m.out);
         }
@@ -108,6 +118,7 @@ int main(int argc, char **argv)
     compared += selfaccounts(count, &g, &differ);
     compared += selfmarks(count, &g, &differ);
     compared += selflanes(&differ);
+    compared += selfwatchdog(count, &g, &differ);
     printf("selftest: %lu passed, %lu failed\n", compared - differ, differ);
     return differ > 0 || compared == 0;
 }

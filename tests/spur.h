@@ -6,7 +6,10 @@
 #include <stddef.h>
 #include <stdint.h>
 
-enum { SLOTS = 16, WATCHDOG = 256, RECORD = 16, NOBODY = 255, NONE = 255 };
+enum { SLOTS = 16, WATCHDOG = 256, MOST_WORDS = 16, RECORD = 16, NOBODY = 255, NONE = 255 };
+/* The watchdog restarts with each word (document 02, wish 5), so a transfer may last its 256 cycles for
+   each of sixteen words: START to START that is 4,097 cycles, and so is START to ACK, both ends counted. */
+enum { LONGEST = WATCHDOG * MOST_WORDS + 1 };
 #define MOST_RECORDS ((uint64_t)1 << 30)
 
 /* --- records (01, "The line record") --- */
@@ -88,7 +91,7 @@ struct judge {
     uint8_t owner;           /* the slot that the last such START's ARB shows */
     uint8_t turn, arb, since; /* the wave's STARTs at its last ARB, 0 for none; cycles since */
     uint8_t open, words, strobes;
-    uint16_t age;
+    uint16_t age;  /* cycles since its START or its last strobe */
     uint32_t busy; /* cycles of the open transfer so far, its START's counted */
 };
 struct tally {

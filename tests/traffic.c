@@ -10,7 +10,7 @@ struct manner {
     uint16_t slots;    /* those that ever want */
     uint32_t wanting;  /* in a thousand, each cycle */
     uint32_t holding, dropping, nothing, blocks;
-    uint32_t prompt, failing, silent;
+    uint32_t prompt, failing, silent, slow;
     uint32_t parity, snooping, loud, kept, resets /* in ten thousand */, jumps;
     int tidy; /* addresses and data as a boot has them, and not near the codes' edges */
 };
@@ -20,7 +20,8 @@ struct sim {
     struct node nodes[SLOTS];
     struct manner how;
     uint32_t stamp, last, walk;
-    int any, silent;
+    int any, silent, slow;
+    uint8_t due;    /* the age at which a slow slave sends its next word */
     uint8_t user;   /* the slot whose transfer is open */
     uint32_t began; /* the stamp of its START */
 };
@@ -55,6 +56,7 @@ static struct manner some_manner(struct rng *g)
     h.prompt = 1 + rng_below(g, 100);
     h.failing = rng_below(g, 10);
     h.silent = rng_chance(g, 40) ? rng_below(g, 10) : 0;
+    h.slow = rng_chance(g, 25) ? 1 + rng_below(g, 100) : 0;
     h.parity = rng_chance(g, 30) ? 0 : rng_below(g, 101);
     h.snooping = rng_chance(g, 60) ? rng_below(g, 40) : 0;
     h.loud = rng_chance(g, 50) ? rng_below(g, 60) : 0;
@@ -84,11 +86,29 @@ static void ask(struct sim *s, struct rng *g)
     }
 }
 
+/* A disk's word comes in any of the watchdog's 256 cycles, in the last ones often (document 02, wish 5). */
+static uint8_t some_due(struct rng *g)
+{
+    return (uint8_t)(WATCHDOG - 1 - (rng_chance(g, 70) ? rng_below(g, 3) : rng_below(g, WATCHDOG)));
+}
+
+/* Whether the slave does something in this cycle. */
+static int acts(struct sim *s, struct rng *g)
+{
+    if (!s->bus.open || s->silent)
+        return 0;
+    if (!s->slow)
+        return rng_chance(g, s->how.prompt);
+    if (s->bus.age == 0)
+        s->due = some_due(g);
+    return s->bus.age >= s->due;
+}
+
 /* A slave that never ends a successful transfer short nor strobes too often. */
 static int slave(struct sim *s, struct rng *g, int *status)
 {
     *status = SUCCESS;
-    if (!s->bus.open || s->silent || !rng_chance(g, s->how.prompt))
+    if (!acts(s, g))
         return NOTHING;
     if (rng_chance(g, s->how.failing)) {
         *status = (int)rng_below(g, 3);
@@ -237,6 +257,7 @@ static void one_cycle(struct maker *m, struct sim *s)
         if (!stays || rng_chance(g, 10))
             n->wants = 0;
         s->silent = rng_chance(g, s->how.silent);
+        s->slow = s->how.slow > 0 && rng_chance(g, s->how.slow);
     }
     if (!record_inactive(&r) || !s->any || rng_chance(g, s->how.kept) ||
         s->stamp - s->last >= (uint32_t)1 << 31) {

@@ -174,6 +174,49 @@ static void grow_old(struct maker *m, unsigned age)
     }
 }
 
+/* Words of the open block that come late (document 02, wish 5): each at the last age that rule 12 allows,
+   or one or two before. Within a wave every cycle of it has its record. */
+static void slow_words(struct maker *m, uint32_t count)
+{
+    for (; count > 0 && m->j.open && m->j.strobes + 1 < m->j.words; count--) {
+        struct record r = quiet(m);
+        unsigned age = WATCHDOG - (rng_chance(m->g, 60) ? 0 : rng_below(m->g, 3));
+        if (m->j.rqst1 || rng_chance(m->g, 20)) {
+            grow_old(m, age - 1);
+            r = quiet(m);
+        } else if (age > m->j.age) {
+            r.stamp = m->j.stamp + age - m->j.age;
+        }
+        r.tm0 = 1;
+        r.tm1 = (uint8_t)rng_below(m->g, 2);
+        if (maker_try(m, &r, 0) != 0)
+            return;
+    }
+}
+
+/* None of a block's strobes, one, some, or all. */
+static uint32_t some_words(struct rng *g)
+{
+    switch (rng_below(g, 4)) {
+    case 0: return 0;
+    case 1: return 1;
+    case 2: return 2 + rng_below(g, 5);
+    default: return MOST_WORDS;
+    }
+}
+
+/* Near rule 12: a transfer of any unit that has grown old, some of them behind words that came late. */
+static int near_watchdog(struct maker *m, uint8_t arb)
+{
+    struct rng *g = m->g;
+    int slow = rng_chance(g, 60), unit = slow ? BLOCK2 + (int)rng_below(g, 4) : (int)rng_below(g, UNITS);
+    if (!m->j.open && !wave_start(m, arb, unit, rng_chance(g, slow ? 15 : 60)))
+        return 0;
+    slow_words(m, slow ? some_words(g) : 0);
+    grow_old(m, 250 + rng_below(g, 7));
+    return 1;
+}
+
 /* A reset, or on from where the bus is; gives an ARB that the wave allows. */
 static uint8_t fresh_or_on(struct maker *m)
 {
@@ -182,6 +225,12 @@ static uint8_t fresh_or_on(struct maker *m)
     if (m->j.turn > 0)
         return m->j.arb > 0 ? (uint8_t)rng_below(m->g, m->j.arb + 1u) : 0;
     return (uint8_t)rng_below(m->g, 16);
+}
+
+int wild_open(struct maker *m, int unit, int rqst)
+{
+    uint8_t arb = fresh_or_on(m);
+    return wave_start(m, arb, unit, rqst);
 }
 
 /* Near each kind: no wave's START since a reset; in a wave's first cycle, half of them right behind
@@ -243,10 +292,7 @@ int wild_setup(struct maker *m, int rule)
                 return 0;
         return settle(m) && wait_turn(m);
     case 12:
-        if (!m->j.open && !wave_start(m, arb, (int)rng_below(g, UNITS), rng_chance(g, 60)))
-            return 0;
-        grow_old(m, 250 + rng_below(g, 7));
-        return 1;
+        return near_watchdog(m, arb);
     case 13:
         if (!m->j.open && !wave_start(m, arb, BLOCK2 + (int)rng_below(g, 4), rng_chance(g, 60)))
             return 0;
