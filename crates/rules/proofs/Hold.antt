@@ -1,5 +1,5 @@
 -- The transfer that the judge implying is the one that the recording has open, and rules 4, 5, 12 and 13 are exact. Assumes nothing.
-use Prim.Native.Nat.{ℕ, suc, _+_, _≤_, _<_}
+use Prim.Native.Nat.{ℕ, zero, suc, _+_, _≤_, _<_}
 use mathlib.Core.Bool.{Bool, true, false, cond, not, _&&_, false≢true, and-false}
 use mathlib.Core.Path.{_≡_, refl, sym, ap, subst, _∙_}
 use mathlib.Core.Logic.{_↔_, _⊎_, inl, inr}
@@ -7,7 +7,7 @@ use native.Mathlib.Omega.{arith}
 use lib.Dec.{ltb, eqb}
 use borrow.Author.Tests.{ltb-true, lt-ltb, le-ltb, leb-true, le-leb, eqb-true, eq-eqb}
 use Rattle.basics.specs.Lines.{one}
-use Rattle.basics.proofs.Bools.{choice, and-both, implied, implying}
+use Rattle.basics.proofs.Bools.{choice, by-test, and-both, implied, implying}
 use Rattle.codes.specs.Start.{meaning, decodeOf}
 use Rattle.rules.specs.declared.Transfer.{Transfer}
 use Rattle.rules.specs.declared.Transfer.the-variants.{Idle, Open}
@@ -175,6 +175,18 @@ rule5-exact r i t h =
 pub rule7-exact : (r : Lines) (i : ℕ) → (rule7 (r i .start) (r i .ack) (wordsOf (r i .tm0) (r i .ad)) ≡ true) ↔ Rule7 r i
 rule7-exact r i =
     both-imply-iff (r i .start) (not (r i .ack)) (ltb 0 (wordsOf (r i .tm0) (r i .ad))) (itself (r i .start)) (off-iff (r i .ack)) (λ _ _. meaning-exact (r i .tm1) (r i .tm0) (r i .ad))
+
+-- there is a record from which the age counts, so rule 12 speaks of every open transfer
+pub ages-there : (r : Lines) (i k : ℕ) → k < i → (m : ℕ) × AgesFrom r i k m
+ages-there r zero k lt = absurd (omega arith)
+ages-there r (suc i) k lt =
+    by-test (strobeOf r k i)
+    (λ e. (i, record { earlier = omega arith; word = inr e; last = λ n gt le. absurd (omega arith) }))
+    (λ e. below k i lt
+    (λ before.
+    let x = ages-there r i k before in
+    (x .0, record { earlier = omega (arith, x .1 .earlier); word = x .1 .word; last = more (λ n. strobeOf r k n ≡ false) (suc (x .0)) i (x .1 .last) e }))
+    (λ q. (i, record { earlier = omega arith; word = inl (sym q); last = λ n gt le. absurd (omega arith) })))
 
 -- the age counts from one record alone
 pub ages-only : (r : Lines) (i k m n : ℕ) → AgesFrom r i k m → AgesFrom r i k n → m ≡ n
