@@ -52,7 +52,10 @@ totals() { # OF WHAT, then the words of the program's first line
 explain_breach() { # breach rule RULE record PLACE span SPAN found FOUND bound BOUND
     printf 'Breach of rule %s at record %s, counted from 0, under hold limit %s.\n\n' "$3" "$5" "$limit"
     for quoted in $(quoted_for "$3"); do printf 'Document 01, rule %s: "%s"\n' "$quoted" "$(sentence "$quoted")"; done
-    case $3 in 8?) printf 'Document 02, wish 2: "%s, %s"\n' "$3" "$(kind "$3")" ;; esac
+    case $3 in
+    8?) printf 'Document 02, wish 2: "%s, %s"\n' "$3" "$(kind "$3")" ;;
+    12) printf 'Document 02, wish 5: "The age returns to 0 with each strobe that takes an owed word, in the stepper and in rule 12"\n' ;;
+    esac
     printf '\n%s\n\n' "$(what_would_conform "$3" "$9" "${11}")"
     table "$5"
     printf '\ncycle and ns are counted from the first record, gap from the record before.\n'

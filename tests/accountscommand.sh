@@ -74,6 +74,9 @@ samples_used() {
         15/26/248)" "$boot"
     set -- 1/1/3 2/15/673 5/12/188 10/484/1899 11/18/493 12/17/71 13/5/104 14/18/126 15/14/108
     accounted 'the sample with a breach' 1 "$(with_slots "$breaks" "$@")" "$root/samples/breach.rec"
+    # START in 2, ACK in 4098: 4,097 cycles, both counted; the second transfer is open where rule 12 is broken, 257 cycles after its strobe
+    accounted 'the sample with slow blocks' 1 "$(with_slots 'records 21 span 4200 starts 2 acks 1 aborted 0 open 1
+breach rule 12 record 21 span 4457' 5/2/4097)" "$root/samples/slow.rec"
 }
 
 account_limits() {

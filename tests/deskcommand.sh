@@ -207,6 +207,9 @@ explained() {
     runs 'explain: a breach in the last record' 1 "$spur" explain "$work/8c"
     tells 'explain: a breach in the last record' "$said" 8c 2 3
     rows_around 'explain: a breach in the last record' "$said" 0 4 4
+    runs 'explain: a word too late' 1 "$spur" explain "$root/samples/slow.rec"
+    tells 'explain: a word too late' "$said" 12 21 4457 445700 257 256 strobe
+    rows_around 'explain: a word too late' "$said" 15 21 21
     undone 'explain: two recordings' explain "$boot" "$boot"
     undone 'explain: a limit that is none' explain --limit x "$boot"
     unreadable_for explain
