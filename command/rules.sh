@@ -59,7 +59,7 @@ what_would_conform() { # RULE FOUND BOUND
     9) echo "RQST, active in the record before, became inactive without START, in this cycle or in one that is missing; it has to stay active up to a cycle with START." ;;
     10) echo "START of the wave with ARB $2; at most $3, the ARB at the wave's last START." ;;
     11) echo "START number $2 of the wave with the same ARB; at most $3, the hold limit." ;;
-    12) echo "$(cycles "$2") since the START of the open transfer, or since its last strobe if it has had one; at most $3." ;;
+    12) echo "The open transfer's age is $(cycles "$2"), since its START or, if it has had one, its last strobe; at most $3." ;;
     13) echo "The number of strobes of the open block transfer is $2; at most $3, and exactly $3 at a successful ACK." ;;
     esac
 }
