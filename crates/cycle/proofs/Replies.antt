@@ -7,7 +7,7 @@ use mathlib.Core.Logic.{_⊎_, inl, inr}
 use native.Mathlib.Omega.{arith}
 use lib.ListN.{getD}
 use Rattle.slots.specs.Set.{mem}
-use borrow.Author.Tests.{eq-eqb, lt-ltb, le-ltb}
+use borrow.Author.Tests.{eq-eqb, ne-eqb, lt-ltb, le-ltb}
 use Rattle.basics.specs.Numbers.{watchdog}
 use Rattle.codes.specs.declared.Status.{Status}
 use Rattle.codes.specs.declared.Status.the-variants.{Timeout}
@@ -18,7 +18,7 @@ use Rattle.cycle.specs.declared.Owner.{Owner}
 use Rattle.cycle.specs.declared.Owner.the-variants.{Nobody, Slot}
 use Rattle.cycle.specs.declared.Transfer.the-variants.{Idle, Open}
 use Rattle.cycle.specs.declared.Ending.the-variants.{Unended, Ended}
-use Rattle.cycle.specs.declared.Note.the-variants.{Clear, Stray}
+use Rattle.cycle.specs.declared.Note.the-variants.{Clear, Extra, Stray}
 use Rattle.cycle.specs.Arbitration.{attends}
 use Rattle.cycle.specs.Transfers.{opened, attention, strayOf, watched, struck, goingOn, progressOf}
 use Rattle.cycle.specs.Cycle.{startsOf, stateBy, replyBy, movedBy, cycleBy, cycleOf}
@@ -71,6 +71,11 @@ module _ (b : Bus) (i : Input) where
   unfolding next cycleIn cycleOf cycleBy movedBy stateBy replyBy progressOf goingOn struck
   word-of owed age t l e = rw (t, e, lt-ltb 1 owed l) (refl, refl, refl)
 
+  extra-of : (owed age : ℕ) → b .transfer ≡ Open owed age → (age + 1 ≡ watchdog → ⊥) → owed ≤ 1 → i .event ≡ Strobe
+      → let r = (cycleIn b i) .reply in (r .ack ≡ false) × (r .note ≡ Extra) × ((next b i) .transfer ≡ Open owed (age + 1))
+  unfolding next cycleIn cycleOf cycleBy movedBy stateBy replyBy progressOf goingOn struck watched
+  extra-of owed age t n l e = rw (t, e, le-ltb 1 owed l, ne-eqb (age + 1) watchdog n) (refl, refl, refl)
+
   timer-of : (owed age : ℕ) → b .transfer ≡ Open owed age → age + 1 ≡ watchdog → (i .event ≡ Nothing) ⊎ ((i .event ≡ Strobe) × (owed ≤ 1))
       → let r = (cycleIn b i) .reply in (r .ack ≡ true) × (r .status ≡ Ended Timeout) × (r .note ≡ Clear) × ((next b i) .transfer ≡ Idle)
   unfolding next cycleIn cycleOf cycleBy movedBy stateBy replyBy progressOf goingOn struck watched
@@ -78,4 +83,4 @@ module _ (b : Bus) (i : Input) where
   timer-of owed age t q (inr e) = rw (t, e .0, le-ltb 1 owed (e .1), eq-eqb (age + 1) watchdog q) (refl, refl, refl, refl)
 
   pub answers : Answers b i
-  answers = record { attention = attention-of; stray = stray-of; finish = finish-of; word = word-of; timer = timer-of }
+  answers = record { attention = attention-of; stray = stray-of; finish = finish-of; word = word-of; extra = extra-of; timer = timer-of }

@@ -1,5 +1,5 @@
 -- What demand 3's proof by itself does not hold fast, said where a reader sees it, of every bus and every input: the full strength of two of
--- demand 3's words (a weaker word would promise less), and five answers that are not about who starts. Proved in proofs/Asking.antt and Replies.antt.
+-- demand 3's words (a weaker word would promise less), and six answers that are not about who starts. Proved in proofs/Asking.antt and Replies.antt.
 use Prim.Native.Nat.{ℕ, _+_, _-_, _<_, _≤_}
 use mathlib.Core.Path.{_≡_}
 use mathlib.Core.Bool.{true, false}
@@ -13,7 +13,7 @@ use Rattle.cycle.specs.declared.Event.the-variants.{Nothing, Strobe, Fin
 use Rattle.cycle.specs.declared.Owner.the-variants.{Nobody, Slot}
 use Rattle.cycle.specs.declared.Transfer.the-variants.{Idle, Open}
 use Rattle.cycle.specs.declared.Ending.the-variants.{Unended, Ended}
-use Rattle.cycle.specs.declared.Note.the-variants.{Clear, Stray}
+use Rattle.cycle.specs.declared.Note.the-variants.{Clear, Extra, Stray}
 use Rattle.basics.specs.Numbers.{watchdog}
 use Rattle.cycle.specs.Nodes.{blank}
 use Rattle.cycle.specs.Runs.{Input, cycleIn, next, after, startIn, count, oneTurn, Asks}
@@ -46,6 +46,9 @@ pub record Answers (b : Bus) (i : Input) : Type 0 where
   -- fires": whatever the age
   pub word : (owed age : ℕ) → b .transfer ≡ Open owed age → 1 < owed → i .event ≡ Strobe
       → let r = (cycleIn b i) .reply in (r .ack ≡ false) × (r .note ≡ Clear) × ((next b i) .transfer ≡ Open (owed - 1) 0)
-  -- "Strobes that are extra restart nothing": in the 256th cycle the timer fires, as it does where nothing comes, and no strobe is noted
+  -- "Strobes that are extra restart nothing": the transfer ages by a cycle all the same, and the strobe is noted;
+  pub extra : (owed age : ℕ) → b .transfer ≡ Open owed age → (age + 1 ≡ watchdog → ⊥) → owed ≤ 1 → i .event ≡ Strobe
+      → let r = (cycleIn b i) .reply in (r .ack ≡ false) × (r .note ≡ Extra) × ((next b i) .transfer ≡ Open owed (age + 1))
+  -- but in the 256th cycle the timer fires, as it does where nothing comes, and no strobe is noted
   pub timer : (owed age : ℕ) → b .transfer ≡ Open owed age → age + 1 ≡ watchdog → (i .event ≡ Nothing) ⊎ ((i .event ≡ Strobe) × (owed ≤ 1))
       → let r = (cycleIn b i) .reply in (r .ack ≡ true) × (r .status ≡ Ended Timeout) × (r .note ≡ Clear) × ((next b i) .transfer ≡ Idle)
