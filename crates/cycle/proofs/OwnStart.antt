@@ -137,12 +137,12 @@ module _ (m : ℕ) (small : m < 16) where
       rw e (λ a. count-slot m (top (b .wave)) _ _ (λ d x.
       let b′ = nextBy b i (stays b (top (b .wave))) in
       let s′ = sound-by b i (stays b (top (b .wave))) s (repeats n l t u refl) in
-      f b′ s′ x (omega (arith, pause-wave m b n, pause-start m b′ (b .wave) s′ refl, turns-stays m (b .limit) (b .wave) (b .turn) (s .slots) n d u))) a)
+      f b′ s′ x (omega (arith, pause-wave m b n, pause-start m b′ (b .wave) s′ refl, turns-stays m (b .limit) (b .wave) (s .slots) n d (b .turn) u))) a)
   comes-by b i is r s (retires n l t e) f w h =
       rw e (λ a. count-slot m (top (b .wave)) _ _ (λ d x.
       let b′ = nextBy b i (leaves b (top (b .wave))) in
       let s′ = sound-by b i (leaves b (top (b .wave))) s (retires n l t refl) in
-      f b′ s′ x (omega (arith, pause-wave m b n, pause-start m b′ (b .wave) s′ (kept m (b .wave) (s .slots) n d), turns-leaves m (b .limit) (b .wave) (b .turn) (s .slots) n d (s .turns)))) a)
+      f b′ s′ x (omega (arith, pause-wave m b n, pause-start m b′ (b .wave) s′ (kept m (b .wave) (s .slots) n d), turns-leaves m (b .limit) (b .wave) (s .slots) n d (b .turn) (s .turns)))) a)
 
   pub comes-of : (is : List Input) (b : Bus) → Sound b → Comes is b
   unfolding starters next startIn cycleIn cycleOf nextBy shownBy arb

@@ -10,7 +10,7 @@ use native.Mathlib.Decide.{decLt}
 use lib.Dec.{eqb}
 use borrow.Author.Tests.{eqb-false}
 use Rattle.basics.specs.Lines.{bit, active, activeBelow}
-use Rattle.basics.proofs.Bools.{not-true}
+use Rattle.basics.proofs.Bools.{by-test, not-true}
 use Rattle.slots.specs.Set.{mem, without, top, card, above}
 use Rattle.slots.proofs.MemberLaws.{mem-kept, mem-small}
 use Rattle.slots.proofs.TopLaws.{topMost}
@@ -108,33 +108,36 @@ turns-most m limit w t k h = go (mem m w) refl
         let one : card w + (15 - m) ≤ 30 - m = omega (arith, cardMiss 16 w m k e) in
         omega (arith, turns-out m limit w t e, mul-le-mul-left limit one)
 
--- the highest of m's wave, if it is not m, is above m
-top-above : (m w : ℕ) → w < 2 ^ 16 → (w ≡ 0 → ⊥) → (top w ≡ m → ⊥) → mem m w ≡ true → suc (above m (without (top w) w)) ≡ above m w
-top-above m w h n d e =
-    let q = highest w h n in
-    above-less m w (top w) (omega (arith, topMost 16 w m (mem-small m w h e) e, d)) (q .small) (q .isIn)
-
-pub turns-stays : (m limit w t : ℕ) → w < 2 ^ 16 → (w ≡ 0 → ⊥) → (top w ≡ m → ⊥) → t + 1 < limit
-    → suc (turnsOf m limit w (t + 1)) ≤ turnsOf m limit w t
-turns-stays m limit w t h n d u = go (mem m w) refl
-  where
-    go : (c : Bool) → mem m w ≡ c → suc (turnsOf m limit w (t + 1)) ≤ turnsOf m limit w t
-    go true e = omega (arith, turns-in m limit w t e, turns-in m limit w (t + 1) e, ap (λ (x : ℕ). limit * x) (top-above m w h n d e))
-    go false e = omega (arith, turns-out m limit w t e, turns-out m limit w (t + 1) e, ap (λ (x : ℕ). limit * x) (card-top w h n))
-
 pub kept : (m w : ℕ) → w < 2 ^ 16 → (w ≡ 0 → ⊥) → (top w ≡ m → ⊥) → mem m (without (top w) w) ≡ mem m w
 kept m w h n d = mem-kept (top w) m w (highest w h n .isIn) d
 
-pub turns-leaves : (m limit w t : ℕ) → w < 2 ^ 16 → (w ≡ 0 → ⊥) → (top w ≡ m → ⊥) → t < limit
-    → suc (turnsOf m limit (without (top w) w) 0) ≤ turnsOf m limit w t
-turns-leaves m limit w t h n d u = go (mem m w) refl
-  where
-    v : ℕ
-    v = without (top w) w
+-- a START of the highest member, which is not m, is one of the limit's that its turn may have
+module _ (m limit w : ℕ) (h : w < 2 ^ 16) (n : w ≡ 0 → ⊥) (d : top w ≡ m → ⊥) where
+  top-above : mem m w ≡ true → suc (above m (without (top w) w)) ≡ above m w
+  top-above e =
+      let q = highest w h n in
+      above-less m w (top w) (omega (arith, topMost 16 w m (mem-small m w h e) e, d)) (q .small) (q .isIn)
 
-    go : (c : Bool) → mem m w ≡ c → suc (turnsOf m limit v 0) ≤ turnsOf m limit w t
-    go true e = omega (arith, turns-in m limit w t e, turns-in m limit v 0 (kept m w h n d ∙ e), ap (λ (x : ℕ). limit * x) (top-above m w h n d e))
-    go false e = omega (arith, turns-out m limit w t e, turns-out m limit v 0 (kept m w h n d ∙ e), ap (λ (x : ℕ). limit * x) (card-top w h n))
+  turn-of : turnsOf m limit w 0 ≡ turnsOf m limit (without (top w) w) 0 + limit
+  unfolding turnsOf
+  turn-of =
+      by-test (mem m w)
+      (λ e. rw (kept m w h n d, e) (omega (arith, ap (λ (x : ℕ). limit * x) (top-above e))))
+      (λ e. rw (kept m w h n d, e) (omega (arith, ap (λ (x : ℕ). limit * x) (card-top w h n))))
+
+  -- it stays below its limit
+  pub turns-stays : (t : ℕ) → t + 1 < limit → suc (turnsOf m limit w (t + 1)) ≡ turnsOf m limit w t
+  unfolding turnsOf
+  turns-stays t u = omega (arith, turn-of)
+
+  -- it leaves, and may have had more; at its limit there is just one fewer
+  pub turns-leaves : (t : ℕ) → t < limit → suc (turnsOf m limit (without (top w) w) 0) ≤ turnsOf m limit w t
+  unfolding turnsOf
+  turns-leaves t u = omega (arith, turn-of)
+
+  pub turns-leaves-last : (t : ℕ) → t + 1 ≡ limit → suc (turnsOf m limit (without (top w) w) 0) ≡ turnsOf m limit w t
+  unfolding turnsOf
+  turns-leaves-last t u = omega (arith, turn-of)
 
 -- the same with the parked START
 share-empty : (m limit w t : ℕ) → w ≡ 0 → t ≡ 0 → shareOf m limit w t ≡ limit * (15 - m) + parkable m
@@ -159,12 +162,12 @@ share-most m limit w t k h = go (mem m w) refl
 share-stays : (m limit w t : ℕ) → w < 2 ^ 16 → (w ≡ 0 → ⊥) → (top w ≡ m → ⊥) → t + 1 < limit
     → suc (shareOf m limit w (t + 1)) ≤ shareOf m limit w t
 unfolding shareOf
-share-stays m limit w t h n d u = omega (arith, turns-stays m limit w t h n d u)
+share-stays m limit w t h n d u = omega (arith, turns-stays m limit w h n d t u)
 
 share-leaves : (m limit w t : ℕ) → w < 2 ^ 16 → (w ≡ 0 → ⊥) → (top w ≡ m → ⊥) → t < limit
     → suc (shareOf m limit (without (top w) w) 0) ≤ shareOf m limit w t
 unfolding shareOf
-share-leaves m limit w t h n d u = rw (kept m w h n d) (omega (arith, turns-leaves m limit w t h n d u))
+share-leaves m limit w t h n d u = rw (kept m w h n d) (omega (arith, turns-leaves m limit w h n d t u))
 
 -- m asks in the first of these cycles, and goes on unless it starts there
 pub asks-on : (m : ℕ) (b : Bus) (i : Input) (is : List Input) → m < 16 → Asks m b (i ∷ is)

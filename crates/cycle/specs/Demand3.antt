@@ -36,7 +36,7 @@ pub record Demand3 (limit : ℕ) : Type 0 where
   -- A START comes only where no transfer was open before the cycle: never in the cycle of the ACK that ends one, but in a later one.
   pub alone : (past : List Input) (i : Input) (s : ℕ)
       → let b = after (fresh limit) past in startIn b i ≡ Slot s → b .transfer ≡ Idle
-  -- 3. While a wave has members, one of the next 4,097 cycles (document 02, wish 5) has a START, whatever came before;
+  -- 3. While a wave has members, one of the next `pauseMost` cycles has a START, whatever came before;
   pub starts : (past future : List Input) → ((after (fresh limit) past) .wave ≡ 0 → ⊥) → length future ≡ pauseMost
       → 0 < length (starters (after (fresh limit) past) future)
   -- so the next START comes at most so many cycles after the last one (in cycle i), if that has left members;

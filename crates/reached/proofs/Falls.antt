@@ -22,10 +22,10 @@ use Rattle.cycle.proofs.WaveSets.{highest, mem-zero}
 use Rattle.cycle.proofs.Bounds.{Sound, left}
 use Rattle.cycle.proofs.Nearer.{wait}
 use Rattle.cycle.proofs.Sound.{sound-by}
-use Rattle.cycle.proofs.Shares.{parkable, turnsOf, turns-empty, kept}
+use Rattle.cycle.proofs.Shares.{parkable, turnsOf, turns-empty, turns-stays, turns-leaves-last, kept}
 use Rattle.reached.proofs.Inputs.{everyone, all-in}
 use Rattle.reached.proofs.Slowest.{slowIn, closes, closing, not-alone, not-yet, opening, attending, elapses, wait-falls, waits-on, idle-at, again, lastly, parks-now, forms-now}
-use Rattle.reached.proofs.Waves.{lowest, none-left, above-highest, turns-whole, fewer-again, fewer-lastly}
+use Rattle.reached.proofs.Waves.{lowest, none-left, above-highest, turns-whole}
 use Rattle.reached.proofs.Due.{due, late, Stage, joined, outside, between, Falls, same-wave, due-wave, share-is, due-empty, share-empty, wait-opened, vacant-between}
 
 -- the cycle in which arbitration comes to a
@@ -80,7 +80,7 @@ module _ (m : ℕ) (b : Bus) (s : Sound b) (n : b .wave ≡ 0 → ⊥) where
     unfolding nextBy shownBy cycleBy movedBy stateBy replyBy
     repeating u =
         starting-on (nextBy b (slowIn b) (stays b lead)) n (omega arith) (opens (stays b lead) refl (not-yet b u))
-        refl (fewer-again m (b .limit) (b .wave) (s .slots) n d (b .turn) u) (same-wave n refl g)
+        refl (turns-stays m (b .limit) (b .wave) (s .slots) n d (b .turn) u) (same-wave n refl g)
 
     module _ (u : b .limit ≤ b .turn + 1) where
       abbrev rest : ℕ
@@ -94,7 +94,7 @@ module _ (m : ℕ) (b : Bus) (s : Sound b) (n : b .wave ≡ 0 → ⊥) where
       sound-then = sound-by b (slowIn b) _ s (retires n (omega arith) (idle-at b s h) refl)
 
       one-fewer : suc (turnsOf m (b .limit) rest 0) ≡ turnsOf m (b .limit) (b .wave) (b .turn)
-      one-fewer = fewer-lastly m (b .limit) (b .wave) (s .slots) n d (b .turn) (omega (arith, s .turns))
+      one-fewer = turns-leaves-last m (b .limit) (b .wave) (s .slots) n d (b .turn) (omega (arith, s .turns))
 
       leaves-open : (b .wave ≡ 1 → ⊥) → then .transfer ≡ Open 16 0
       unfolding leaves

@@ -1,17 +1,13 @@
--- Laws of waves as the slowest run meets them: what slot m may still see falls by one with each START, and no more. Assumes nothing.
+-- Laws of waves as the slowest run meets them: slot 0 alone, and all that are above m. Assumes nothing.
 use Prim.Native.Nat.{ℕ, zero, suc, _+_, _-_, _*_, _^_, _<_, _≤_}
 use mathlib.Core.Path.{_≡_, refl, sym, ap, _∙_}
 use mathlib.Core.Bool.{Bool, true, false}
 use native.Mathlib.Omega.{arith}
 use Rattle.basics.specs.Lines.{one, bit, active, activeBelow}
-use Rattle.basics.proofs.Bools.{by-test}
 use Rattle.slots.specs.Set.{mem, without, topBelow, top, cardBelow, above}
-use Rattle.slots.proofs.MemberLaws.{mem-small}
-use Rattle.slots.proofs.TopLaws.{topMost}
-use Rattle.slots.proofs.SizeLaws.{above-less}
 use Rattle.slots.proofs.WithLaws.{same-members}
-use Rattle.cycle.proofs.WaveSets.{highest, above-top, card-top}
-use Rattle.cycle.proofs.Shares.{turnsOf, kept}
+use Rattle.cycle.proofs.WaveSets.{highest, above-top}
+use Rattle.cycle.proofs.Shares.{turnsOf}
 
 -- ---- a wave whose highest member is slot 0 is slot 0 alone
 pub lowest : (w : ℕ) → w < 2 ^ 16 → (w ≡ 0 → ⊥) → top w ≡ 0 → w ≡ 1
@@ -57,26 +53,3 @@ above-all m w l f = omega (arith, all-or-none true (suc m) (15 - m) 16 w (omega 
 pub turns-whole : (m limit w : ℕ) → m < 16 → ((i : ℕ) → m ≤ i → i < 16 → mem i w ≡ true) → turnsOf m limit w 0 ≡ limit * (15 - m)
 unfolding turnsOf
 turns-whole m limit w l f = rw (f m (omega arith) l, above-all m w l (λ i g. f i (omega arith))) (omega arith)
-
-module _ (m limit w : ℕ) (h : w < 2 ^ 16) (n : w ≡ 0 → ⊥) (d : top w ≡ m → ⊥) where
-  top-above : mem m w ≡ true → suc (above m (without (top w) w)) ≡ above m w
-  top-above e =
-      let q = highest w h n in
-      above-less m w (top w) (omega (arith, topMost 16 w m (mem-small m w h e) e, d)) (q .small) (q .isIn)
-
-  -- the highest member's turn is one of the limit
-  turn-of : turnsOf m limit w 0 ≡ turnsOf m limit (without (top w) w) 0 + limit
-  unfolding turnsOf
-  turn-of =
-      by-test (mem m w)
-      (λ e. rw (kept m w h n d, e) (omega (arith, ap (λ (x : ℕ). limit * x) (top-above e))))
-      (λ e. rw (kept m w h n d, e) (omega (arith, ap (λ (x : ℕ). limit * x) (card-top w h n))))
-
-  -- it starts and stays, or starts at its limit and leaves: one fewer
-  pub fewer-again : (t : ℕ) → t + 1 < limit → suc (turnsOf m limit w (t + 1)) ≡ turnsOf m limit w t
-  unfolding turnsOf
-  fewer-again t u = omega (arith, turn-of)
-
-  pub fewer-lastly : (t : ℕ) → t + 1 ≡ limit → suc (turnsOf m limit (without (top w) w) 0) ≡ turnsOf m limit w t
-  unfolding turnsOf
-  fewer-lastly t u = omega (arith, turn-of)

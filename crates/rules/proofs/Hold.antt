@@ -71,6 +71,15 @@ pub opened-only : (r : Lines) (i k n : ℕ) → Opened r i k → Opened r i n �
 opened-only r i k n o q =
     same-place k n (λ lt. clash (q .starts) (o .alone n lt (q .earlier))) (λ lt. clash (o .starts) (q .alone k lt (o .earlier)))
 
+-- ---- from where the age counts
+-- behind record i it counts from there, if that is the START or a strobe; else from where it did
+ages-now : (r : Lines) (i k : ℕ) → (i ≡ k) ⊎ (strobeOf r k i ≡ true) → AgesFrom r (suc i) k i
+ages-now r i k w = record { earlier = omega arith; word = w; last = λ n gt lt. absurd (omega arith) }
+
+ages-on : (r : Lines) (i k m : ℕ) → AgesFrom r i k m → strobeOf r k i ≡ false → AgesFrom r (suc i) k m
+ages-on r i k m f e =
+    record { earlier = omega (arith, f .earlier); word = f .word; last = more (λ n. strobeOf r k n ≡ false) (suc m) i (f .last) e }
+
 -- ---- what the judge's transfer says of the recording before record i
 pub record HeldBy (r : Lines) (i k words strobes age busy : ℕ) : Type 0 where
   pub since : Opened r i k
@@ -110,7 +119,7 @@ held-started r i nr s na r7 =
       same = words-exact r i (r7 s na);
       seen = sym (count-none (strobeOf r i) (suc i) (λ m lt. rw (le-ltb i m (let z : m ≤ i = omega arith in z))));
       word = i;
-      from = record { earlier = omega arith; word = inl refl; last = λ n gt lt. absurd (omega arith) };
+      from = ages-now r i i (inl refl);
       aged = omega arith;
       spent = omega arith;
     }
@@ -119,21 +128,15 @@ held-started r i nr s na r7 =
 strobe-now : (r : Lines) (i k w : ℕ) → k < i → w ≡ wordsAt r k → strobeOf r k i ≡ strobe w (r i .start) (r i .ack) (r i .tm0)
 strobe-now r i k w lt e = rw (lt-ltb k i lt, e)
 
--- record i is a strobe, from which the age counts behind it; or it is none, and the age goes on
+-- what the age is behind record i, and from where it counts
 record Aging (r : Lines) (i k age : ℕ) : Type 0 where
   word : ℕ
   from : AgesFrom r (suc i) k word
   aged : cycle r word + age ≡ cycle r i
 
 aging : (r : Lines) (i k m a : ℕ) → AgesFrom r i k m → cycle r m + a + gap r i ≡ cycle r i → (s : Bool) → s ≡ strobeOf r k i → Aging r i k (cond s 0 (a + gap r i))
-aging r i k m a f e true q =
-    record { word = i; from = record { earlier = omega arith; word = inr (sym q); last = λ n gt lt. absurd (omega arith) }; aged = omega arith }
-aging r i k m a f e false q =
-    record {
-      word = m;
-      from = record { earlier = omega (arith, f .earlier); word = f .word; last = more (λ n. strobeOf r k n ≡ false) (suc m) i (f .last) (sym q) };
-      aged = omega (arith, e);
-    }
+aging r i k m a f e true q = record { word = i; from = ages-now r i k (inr (sym q)); aged = omega arith }
+aging r i k m a f e false q = record { word = m; from = ages-on r i k m f (sym q); aged = omega (arith, e) }
 
 held-aged : (r : Lines) (i : ℕ) (t : Transfer) → Held r i t → r i .reset ≡ false → r i .start ≡ false → r i .ack ≡ false → Held r (suc i) (agedOf t (r i .start) (r i .ack) (r i .tm0) (gap r i))
 held-aged r i Idle h nr ns na = λ k o.
@@ -181,12 +184,8 @@ pub ages-there : (r : Lines) (i k : ℕ) → k < i → (m : ℕ) × AgesFrom r i
 ages-there r zero k lt = absurd (omega arith)
 ages-there r (suc i) k lt =
     by-test (strobeOf r k i)
-    (λ e. (i, record { earlier = omega arith; word = inr e; last = λ n gt le. absurd (omega arith) }))
-    (λ e. below k i lt
-    (λ before.
-    let x = ages-there r i k before in
-    (x .0, record { earlier = omega (arith, x .1 .earlier); word = x .1 .word; last = more (λ n. strobeOf r k n ≡ false) (suc (x .0)) i (x .1 .last) e }))
-    (λ q. (i, record { earlier = omega arith; word = inl (sym q); last = λ n gt le. absurd (omega arith) })))
+    (λ e. (i, ages-now r i k (inr e)))
+    (λ e. below k i lt (λ before. let x = ages-there r i k before in (x .0, ages-on r i k (x .0) (x .1) e)) (λ q. (i, ages-now r i k (inl (sym q)))))
 
 -- the age counts from one record alone
 pub ages-only : (r : Lines) (i k m n : ℕ) → AgesFrom r i k m → AgesFrom r i k n → m ≡ n
