@@ -15,7 +15,7 @@ use rules::{Judge, Owner, Transfer};
 // ---- a record
 
 // What of a record an account hangs on. `counts` says that it has START, ACK or RESET: no other record changes an entry.
-#[derive(Drop)]
+#[derive(Clone, Copy)]
 struct Shown {
     stamp: u32,
     reset: bool,
@@ -55,7 +55,7 @@ fn shown_in(part: &[u8]) -> Shown
 
 // What is kept of the records before: the last one's stamp and RQST, the owner's slot, and whether a transfer is open and the cycle before its START.
 // So a record between START and ACK leaves it but for the first two.
-#[derive(Drop)]
+#[derive(Clone, Copy)]
 pub(crate) struct Watch {
     pub(crate) stamp: u32,
     pub(crate) rqst: bool,
@@ -183,7 +183,7 @@ fn added(entry: Entry, starts: bool, busy: u32) -> Entry
 // ---- the pass
 
 // What was kept and the account, after some records.
-#[derive(Drop)]
+#[derive(Clone, Copy)]
 pub(crate) struct Charged {
     pub(crate) watch: Watch,
     pub(crate) entries: [Entry; 16],

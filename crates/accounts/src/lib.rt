@@ -1,6 +1,8 @@
 // Who used the bus (document 02, wish 3): the judge with an account of each slot. Types and meaning stand in the crates `usage` and `entries`.
 //
 // The judge stays as it is. It judges a part first, and then the records that it has passed are charged in a second pass (`charge`).
+#![tactic(auto)]
+
 mod charge;
 mod pieces;
 
@@ -109,7 +111,7 @@ pub fn judge_account(bytes: &[u8], judge: Judge, tally: Tally, entries: [Entry; 
 }
 
 // What a caller who lends the tally and the account is answered, and the two to be.
-#[derive(Drop)]
+#[derive(Clone, Copy)]
 struct Call {
     judged: Judged,
     tally: Tally,

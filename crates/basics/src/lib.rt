@@ -1,4 +1,6 @@
 // What every crate says: a line as a number, a choice, and the first number that applies of several in their order.
+#![tactic(auto)]
+
 ghost use Rattle.std.specs.Prelude.{◌≡◌, cond, ◌<◌};
 ghost use Rattle.basics.specs.Lines.{one};
 ghost use Rattle.basics.specs.Order.{unless};

@@ -1,5 +1,7 @@
 // Which rule a record breaks (document 01, "The judge": "For each record, lowest number first: .."), by what the judge's state says of the
 // cycles before. What the state is after a record that breaks none stands in the crate `judge`; the definitions of both, in `rules`.
+#![tactic(auto)]
+
 ghost use Rattle.std.specs.Prelude.{◌≡◌, if◌then◌else◌};
 ghost use Rattle.rules.specs.Rules.{rule1, rule2, rule3, rule4, rule5, rule6, rule7, rule8a, rule8b, rule8c, rule9, rule10, rule11, rule12, rule13};
 ghost use Rattle.rules.specs.State.{open_words, open_strobes, open_age, asked_of, twice_of, diff_of};
@@ -28,7 +30,7 @@ pub fn difference(judge: Judge, stamp: u32) -> u32
 }
 
 // The open transfer's numbers, 0 where none is open.
-#[derive(Drop)]
+#[derive(Clone, Copy)]
 struct Counts {
     words: u8,
     strobes: u8,

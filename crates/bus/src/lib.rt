@@ -1,6 +1,8 @@
 // One bus cycle (document 01, "One bus cycle"), and a call of the step. The definitions stand in crate `cycle`, specs/Cycle.antt and Nodes.antt. The
 // state goes in and comes back by value. `step` takes the caller's table of sixteen nodes; `step_sets` the sets and words that crate `nodes`
 // reads from one.
+#![tactic(auto)]
+
 mod arbitration;
 mod bounds;
 mod transfers;

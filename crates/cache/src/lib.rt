@@ -1,4 +1,6 @@
 // The cache block tables (document 01, "Cache blocks"): states and copies, sixteen to a block by slot, and memory, a word to a block.
+#![tactic(auto)]
+
 ghost use Rattle.std.specs.Prelude.{◌≡◌, cond, true, ◌&&◌, ◌+◌, ◌≤◌, ◌<◌, length, get_or, set, ltb};
 ghost use Rattle.cache.specs.States.{owned_shared, legal, valid, private, owns};
 ghost use Rattle.cache.specs.Block.{owner_below, sound, all_sound, coherent};
@@ -19,7 +21,7 @@ pub const OWNED_SHARED: u8 = 2;
 pub const OWNED_PRIVATE: u8 = 3;
 
 // Why a call is refused, with document 01's number.
-#[derive(Drop)]
+#[derive(Clone, Copy)]
 pub enum Refusal {
     // 1: memory isn't 1 to 64 words, or the other tables aren't 16 times as long
     Sizes,
@@ -30,14 +32,14 @@ pub enum Refusal {
 }
 
 // What a read answers.
-#[derive(Drop)]
+#[derive(Clone, Copy)]
 pub enum Reading {
     Value(u32),
     Refused(Refusal),
 }
 
 // What a write or an evict answers.
-#[derive(Drop)]
+#[derive(Clone, Copy)]
 pub enum Change {
     Done,
     Refused(Refusal),

@@ -1,4 +1,6 @@
 // START codes, ACK status and parity (001, 2.6, tables 2.2 to 2.4): what a START asks for, both ways, how an ACK ends it, and SP.
+#![tactic(auto)]
+
 ghost use Rattle.std.specs.Prelude.{◌≡◌, ◌<◌};
 ghost use Rattle.basics.specs.Lines.{active};
 ghost use Rattle.basics.specs.Answers.{accepted};
@@ -10,7 +12,7 @@ ghost use Rattle.codes.specs.Ack.{status_of, status_lines_of};
 ghost use Rattle.codes.specs.Parity.{parity_of};
 
 // What a transfer moves (001, tables 2.2 and 2.3): a byte, a halfword, a word, or a block of two to sixteen words.
-#[derive(Drop)]
+#[derive(Clone, Copy)]
 pub enum Unit {
     Byte,
     Halfword,
@@ -22,7 +24,7 @@ pub enum Unit {
 }
 
 // What a master asks for with a START.
-#[derive(Drop)]
+#[derive(Clone, Copy)]
 pub struct Operation {
     pub write: bool,
     pub unit: Unit,
@@ -30,7 +32,7 @@ pub struct Operation {
 }
 
 // The lines that say so in the START's cycle.
-#[derive(Drop)]
+#[derive(Clone, Copy)]
 pub struct Code {
     pub tm1: bool,
     pub tm0: bool,
@@ -38,7 +40,7 @@ pub struct Code {
 }
 
 // The unit that a START's code names, or none: a block with AD2 to AD5 all active has no length (001, table 2.3).
-#[derive(Drop)]
+#[derive(Clone, Copy)]
 pub enum Size {
     Is(Unit),
     NoMeaning,
@@ -46,28 +48,28 @@ pub enum Size {
 
 // What a START's lines mean: an operation, and beside it the byte lanes of the enclosing word that carry its unit (document 02, wish 4), lane k
 // in bit k. The encoder takes the operation alone, so that nobody can hand over lanes that don't fit it.
-#[derive(Drop)]
+#[derive(Clone, Copy)]
 pub struct Meaning {
     pub operation: Operation,
     pub lanes: u8,
 }
 
 // What a START's lines ask for, or refusal 4.
-#[derive(Drop)]
+#[derive(Clone, Copy)]
 pub enum Decoded {
     Means(Meaning),
     NoMeaning,
 }
 
 // The lines of an operation, or refusal 4.
-#[derive(Drop)]
+#[derive(Clone, Copy)]
 pub enum Encoded {
     By(Code),
     Unaligned,
 }
 
 // How a transfer ended (001, table 2.4).
-#[derive(Drop)]
+#[derive(Clone, Copy)]
 pub enum Status {
     Success,
     Error,
@@ -76,14 +78,14 @@ pub enum Status {
 }
 
 // The lines that say so in the ACK's cycle.
-#[derive(Drop)]
+#[derive(Clone, Copy)]
 pub struct StatusLines {
     pub tm1: bool,
     pub tm0: bool,
 }
 
 // What a row of table 2.2 names: of a block it does not say the length, which stands in AD2 upwards (table 2.3).
-#[derive(Drop)]
+#[derive(Clone, Copy)]
 pub enum Kind {
     Byte,
     Halfword,
@@ -92,7 +94,7 @@ pub enum Kind {
 }
 
 // A row of table 2.2: whether it writes, what it names, and the byte of the word at which that begins.
-#[derive(Drop)]
+#[derive(Clone, Copy)]
 pub struct Mode(pub bool, pub Kind, pub u8);
 
 // Table 2.2 in its row order: TM1 TM0 AD1 AD0 from all active (LLLL in 001, where low is active) down to none. Nothing else spells it.
@@ -154,7 +156,7 @@ fn block_length(ad: u32) -> Size
 
 // What tables 2.2 and 2.3 say of a unit: its bytes, to which its address is aligned; the words that its transfer owes; whether its code has
 // TM0 active; and what the code has active among the address's low lines, which are zero, so that the sum in `encode` can't carry.
-#[derive(Drop)]
+#[derive(Clone, Copy)]
 struct Measures(u32, u8, bool, u32);
 
 fn measured(unit: Unit) -> Measures

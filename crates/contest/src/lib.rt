@@ -1,5 +1,7 @@
 // The arbitration contest (001, 2.7.1): the ARB lines settle at the highest contesting slot.
 // The lines stand as the bits of a number, bit 1 for an active line; so does the set of contesting slots.
+#![tactic(auto)]
+
 ghost use Rattle.std.specs.Prelude.{◌≡◌, ◌||◌, not, ◌<◌};
 ghost use Rattle.basics.specs.Lines.{active};
 ghost use Rattle.contest.specs.Contest.{drives, driven, Settles, winner_of};
@@ -7,7 +9,7 @@ ghost use Rattle.contest.specs.Walk.{with_line, settle_from};
 
 use slots::{member, with};
 
-#[derive(Drop)]
+#[derive(Clone, Copy)]
 pub enum Winner {
     Slot(u8),
     Nobody,

@@ -1,26 +1,28 @@
 // The bus of document 01, "One bus cycle": its state, what comes in, and what a cycle answers. One cycle's code is the crate `bus`; what it has to
 // do is said in specs/, and demand 3 is proved of that.
+#![tactic(auto)]
+
 ghost use Rattle.std.specs.Prelude.{◌≡◌};
 ghost use Rattle.cycle.specs.Bounds.{fresh_of, fresh_answer};
 
 use codes::Status;
 
 // The master that started last, or none since the reset; and the starter of a cycle, or none.
-#[derive(Drop)]
+#[derive(Clone, Copy)]
 pub enum Owner {
     Nobody,
     Slot(u8),
 }
 
 // Words owed 1 to 16, age 0 to 255.
-#[derive(Drop)]
+#[derive(Clone, Copy)]
 pub enum Transfer {
     Idle,
     Open { owed: u8, age: u8 },
 }
 
 // The wave is a set of slots; the settling count is 0 to 2; the turn, the STARTs in this turn, stays below the hold limit.
-#[derive(Drop)]
+#[derive(Clone, Copy)]
 pub struct Bus {
     pub wave: u16,
     pub settling: u8,
@@ -31,7 +33,7 @@ pub struct Bus {
 }
 
 // What the slave does in a cycle.
-#[derive(Drop)]
+#[derive(Clone, Copy)]
 pub enum Event {
     Nothing,
     Strobe,
@@ -39,7 +41,7 @@ pub enum Event {
 }
 
 // One record of the caller's table of sixteen. Words are 0, 1, 2, 4, 8 or 16.
-#[derive(Drop)]
+#[derive(Clone, Copy)]
 pub struct Node {
     pub wants: bool,
     pub holds: bool,
@@ -47,14 +49,14 @@ pub struct Node {
 }
 
 // What the table comes to: the slots that want, those that hold, and each slot's words.
-#[derive(Drop)]
+#[derive(Clone, Copy)]
 pub struct Sets {
     pub wants: u16,
     pub holds: u16,
     pub words: [u8; 16],
 }
 
-#[derive(Drop)]
+#[derive(Clone, Copy)]
 pub enum Note {
     Clear,
     Short,
@@ -63,14 +65,14 @@ pub enum Note {
 }
 
 // The status with which a transfer ends; none unless one does.
-#[derive(Drop)]
+#[derive(Clone, Copy)]
 pub enum Ending {
     Unended,
     Ended(Status),
 }
 
 // What a cycle answers.
-#[derive(Drop)]
+#[derive(Clone, Copy)]
 pub struct Reply {
     pub rqst: bool,
     pub start: bool,
@@ -81,7 +83,7 @@ pub struct Reply {
 }
 
 // What arbitration makes of a cycle: the wave, settling count, turn and owner after it, and who starts in it.
-#[derive(Drop)]
+#[derive(Clone, Copy)]
 pub struct Arbitration {
     pub wave: u16,
     pub settling: u8,
@@ -91,7 +93,7 @@ pub struct Arbitration {
 }
 
 // What a cycle makes of the transfer.
-#[derive(Drop)]
+#[derive(Clone, Copy)]
 pub struct Progress {
     pub transfer: Transfer,
     pub ack: bool,
@@ -100,14 +102,14 @@ pub struct Progress {
 }
 
 // The state after a cycle, and the cycle's reply.
-#[derive(Drop)]
+#[derive(Clone, Copy)]
 pub struct Moved {
     pub bus: Bus,
     pub reply: Reply,
 }
 
 // A call of the step. A refusal hands the state back unchanged: 5 (out of bounds), 1 (the table is not 16 long), 3 (words).
-#[derive(Drop)]
+#[derive(Clone, Copy)]
 pub enum Stepped {
     Accepted(Moved),
     OutOfBounds(Bus),
@@ -116,7 +118,7 @@ pub enum Stepped {
 }
 
 // A fresh bus, or refusal 3.
-#[derive(Drop)]
+#[derive(Clone, Copy)]
 pub enum Fresh {
     Made(Bus),
     UnlawfulLimit,

@@ -1,9 +1,11 @@
 // What the slots used of the bus (document 02, wish 3, "Who used the bus"): the entries of an account, and the caller's table of them.
+#![tactic(auto)]
+
 ghost use Rattle.std.specs.Prelude.{◌≡◌, min};
 ghost use Rattle.entries.specs.Entries.{zero_entry, sixteen_of, spread_of};
 
 // What one slot has used: its STARTs and its busy cycles.
-#[derive(Drop)]
+#[derive(Clone, Copy)]
 pub struct Entry {
     pub starts: u32,
     pub busy: u64,

@@ -1,9 +1,11 @@
 // A recording that is fed to the judge in pieces of any length (document 01, "The judge" and the judging program of "Checked examples"): the types, and
 // what they mean. The code that feeds stands in the crate `stream`.
+#![tactic(auto)]
+
 use rules::{Broken, Judge, Tally, Verdict};
 
 // What has ended the judging before the input's end, if anything has: a breach, or a whole record past 2^30.
-#[derive(Drop)]
+#[derive(Clone, Copy)]
 pub enum Stop {
     Going,
     AtBreach(Broken),
@@ -11,7 +13,7 @@ pub enum Stop {
 }
 
 // The input so far: what its whole records came to, and the first `held` bytes of `torn`, which are those of a torn record.
-#[derive(Drop)]
+#[derive(Clone, Copy)]
 pub struct Stream {
     pub judge: Judge,
     pub tally: Tally,
@@ -21,14 +23,14 @@ pub struct Stream {
 }
 
 // A call's number, 0 where it is accepted, and the state that it leaves.
-#[derive(Drop)]
+#[derive(Clone, Copy)]
 pub struct Fed {
     pub number: u8,
     pub stream: Stream,
 }
 
 // What an input comes to: the verdict, the totals, and whether a transfer is open.
-#[derive(Drop)]
+#[derive(Clone, Copy)]
 pub struct Ending {
     pub verdict: Verdict,
     pub tally: Tally,

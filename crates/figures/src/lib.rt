@@ -1,5 +1,7 @@
 // Figures of the analyst's desk: numbers of bus cycles read from words, and times and digits put into lent buffers. A bus cycle is 100 ns, so cycles
 // are seconds with seven digits behind the point, and nothing is ever rounded.
+#![tactic(auto)]
+
 ghost use Rattle.std.specs.Prelude.{◌≡◌, true, ◌-◌, ◌≤◌, ◌<◌, min, length, drop};
 ghost use Rattle.io.specs.Digits.{hex_digit_ascii, last_digits};
 ghost use Rattle.text.specs.Numbers.{all_digits, value_of};
@@ -41,7 +43,7 @@ pub fn figure_in(word: &[u8]) -> Number
 // ---- digits
 
 // The bases in which digits are put.
-#[derive(Drop)]
+#[derive(Clone, Copy)]
 pub enum Base {
     Binary,
     Decimal,

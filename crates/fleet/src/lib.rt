@@ -1,10 +1,12 @@
 // The figures of a fleet: how many numbers there are, the least, the median, the greatest, and their mean with what is left of the sum. Nothing is
 // rounded, and no sum of all the numbers is made, since it may not fit.
+#![tactic(auto)]
+
 ghost use Rattle.std.specs.Prelude.{◌≡◌, cond, ◌+◌, ◌*◌, ◌^◌, ◌/◌, ◌%◌, ◌≤◌, ◌<◌, min, max, leb, length};
 ghost use Rattle.fleet.specs.Figures.{least_of, greatest_of, total_of, within, half_within, median_of, summary_of};
 
 // What is said of the numbers; all of it is 0 where there are none.
-#[derive(Drop)]
+#[derive(Clone, Copy)]
 pub struct Summary {
     pub count: usize,
     pub least: u64,
@@ -99,7 +101,7 @@ fn median(figures: &[u64]) -> u64
 }
 
 // The sum of some of n numbers as n times the mean, and what is left.
-#[derive(Drop)]
+#[derive(Clone, Copy)]
 struct Share {
     mean: u64,
     remainder: u64,

@@ -1,5 +1,7 @@
 // The line of a fleet's figures, as bytes in a lent buffer. It is made on a page that has room for it, whatever the numbers, and then put into the
 // buffer at once: so a buffer that is too short is not written.
+#![tactic(auto)]
+
 ghost use Rattle.std.specs.Prelude.{◌≡◌, length};
 ghost use Rattle.text.specs.Places.{moved_by, put_at};
 ghost use Rattle.printed.specs.Adding.{Adds};

@@ -2,6 +2,8 @@
 //
 // A record is judged in two ways. `judge_one` tests the thirteen rules one by one and finds the lowest that is broken. Most records break
 // none, and `quick` sees that with few tests where the judge has judged a record before; what it does not decide, `judge_one` does.
+#![tactic(auto)]
+
 mod after;
 mod bounds;
 mod quick;
@@ -170,7 +172,7 @@ pub fn judge_record(sixteen: [u8; 16], judge: Judge, tally: Tally) -> Outcome
 }
 
 // What a caller who lends the tally is answered, and the tally to be.
-#[derive(Drop)]
+#[derive(Clone, Copy)]
 struct Call {
     judged: Judged,
     tally: Tally,

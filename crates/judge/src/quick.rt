@@ -11,7 +11,7 @@ use record::Record;
 use rules::{Judge, Progress, Tally, Transfer, Wave};
 
 // How far a part has been judged: so many records, and the state and the tally after them.
-#[derive(Drop)]
+#[derive(Clone, Copy)]
 pub(crate) struct Reached {
     pub(crate) done: usize,
     pub(crate) judge: Judge,

@@ -1,5 +1,7 @@
 // The caller's table (document 01: "a table of sixteen node records that the caller lends: wants, holds, words"), read into sets of slots and a
 // word array. What they come to is said in crate `cycle`, specs/Nodes.antt.
+#![tactic(auto)]
+
 ghost use Rattle.std.specs.Prelude.{◌≡◌, ◌<◌, get_or};
 ghost use Rattle.cycle.specs.Nodes.{blank, joined_of, add_of, no_nodes, sets_of};
 

@@ -3,6 +3,8 @@
 //
 // A piece is gone through in parts. Each ends with the next record that matters to the search, so that most records are judged many at a time, and
 // the span at a mark's START is the tally's own.
+#![tactic(auto)]
+
 mod bounds;
 mod look;
 

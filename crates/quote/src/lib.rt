@@ -1,4 +1,6 @@
 // The worst wait that a laboratory plans by: what demand 3 proves for a master that asks and goes on asking, by its slot and the hold limit.
+#![tactic(auto)]
+
 ghost use Rattle.std.specs.Prelude.{◌≡◌, ◌<◌, ◌≤◌, min};
 ghost use Rattle.cycle.specs.Waits.{turns_most};
 ghost use Rattle.quote.specs.declared.Worst.{Worst};
@@ -9,14 +11,14 @@ ghost use Rattle.quote.specs.Quoted.{Quoted};
 use cycle::Bus;
 
 // At most so many STARTs of others before the own START, which comes within so many cycles.
-#[derive(Drop)]
+#[derive(Clone, Copy)]
 pub struct Worst {
     pub others: u32,
     pub cycles: u32,
 }
 
 // The worst wait, or refusal 2 or 3.
-#[derive(Drop)]
+#[derive(Clone, Copy)]
 pub enum Quote {
     Is(Worst),
     BadSlot,

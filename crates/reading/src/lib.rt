@@ -1,5 +1,7 @@
 // What the programs share that read a recording on standard input: a read as a value, how many reads are enough, what there is to say, and the hold
 // limit that they are given.
+#![tactic(auto)]
+
 ghost use Rattle.std.specs.Prelude.{◌≡◌, min, ℤ};
 ghost use Rattle.io.specs.Counts.{IsPrefixLen};
 ghost use Rattle.reading.specs.Reads.{brought_by};
@@ -13,14 +15,14 @@ use text::Number;
 pub const TURNS: u64 = (Judge::MOST_RECORDS as u64 + 1) * 16;
 
 // What a read brought: so many bytes, which stand at the buffer's front, and whether it failed.
-#[derive(Drop)]
+#[derive(Clone, Copy)]
 pub struct Brought {
     pub size: usize,
     pub failed: bool,
 }
 
 // What a program has to say: the text that is to be printed, so many bytes of it, or that standard input can't be read.
-#[derive(Drop)]
+#[derive(Clone, Copy)]
 pub enum Said {
     Page(usize),
     CantRead,

@@ -1,11 +1,13 @@
 // The line record (document 01, "The line record"): sixteen bytes, bit-packed, most significant first.
+#![tactic(auto)]
+
 ghost use Rattle.std.specs.Prelude.{◌≡◌, false, ◌++◌, ◌+◌, ◌*◌, ◌%◌, ◌/◌, ◌≤◌, ◌<◌, length, take, drop};
 ghost use Rattle.basics.specs.Lines.{one};
 ghost use Rattle.record.specs.Layout.{packed, record_in};
 ghost use Rattle.record.specs.Packing.{too_wide, too_few, packed_number, pack_refusal, pack_into, unpacked_answer, parsed, unpack_of, blank, lines_of, spare_of};
 
 // One bus cycle's lines with their stamp; the spare bits are not part of it.
-#[derive(Drop)]
+#[derive(Clone, Copy)]
 pub struct Record {
     pub stamp: u32,
     pub reset: bool,
@@ -25,14 +27,14 @@ pub struct Record {
     pub vad: u64,
 }
 
-#[derive(Drop)]
+#[derive(Clone, Copy)]
 pub enum Packed {
     Written,
     TooWide,
     NoRoom,
 }
 
-#[derive(Drop)]
+#[derive(Clone, Copy)]
 pub enum Unpacked {
     Is(Record),
     SpareSet,

@@ -1,5 +1,7 @@
 // A record of a recording as a row of text: where it stands and all its lines, as bytes in a lent buffer. The row is made on a page that has room for it,
 // whatever the numbers, and then put into the buffer at once: so a buffer that is too short is not written.
+#![tactic(auto)]
+
 ghost use Rattle.std.specs.Prelude.{◌++◌, ◌≡◌, min, length};
 ghost use Rattle.basics.specs.Lines.{one};
 ghost use Rattle.io.specs.Digits.{last_digits};

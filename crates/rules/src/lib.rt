@@ -1,12 +1,14 @@
 // The judge of recordings (document 01, "The judge"): its state, its tally and its verdict. The code that judges
 // stands in the crates `breach` (which rule a record breaks) and `judge`.
+#![tactic(auto)]
+
 ghost use Rattle.std.specs.Prelude.{◌≡◌};
 ghost use Rattle.rules.specs.State.{is_open, is_owned, fresh_wave, zero_tally};
 ghost use Rattle.rules.specs.Verdict.{fresh_answer, fresh_of, refused_by};
 
 // The transfer that is open before the next record, with its words, the strobes counted so far, its age in cycles since its START or its last strobe,
 // and the cycles that it has been busy, its START's with them.
-#[derive(Drop)]
+#[derive(Clone, Copy)]
 pub enum Transfer {
     Idle,
     Open {
@@ -18,14 +20,14 @@ pub enum Transfer {
 }
 
 // The owner of the bus, who may park: the slot of the last START of a wave since the reset, or nobody where there was none.
-#[derive(Drop)]
+#[derive(Clone, Copy)]
 pub enum Owner {
     Nobody,
     Slot(u8),
 }
 
 // What the judge keeps of RQST, of the wave and of its STARTs.
-#[derive(Drop)]
+#[derive(Clone, Copy)]
 pub struct Wave {
     // RQST in the last record, and one cycle before that record
     pub rqst: bool,
@@ -39,7 +41,7 @@ pub struct Wave {
 }
 
 // The judge's state before a record.
-#[derive(Drop)]
+#[derive(Clone, Copy)]
 pub struct Judge {
     pub limit: u8,
     // a record has been judged, and `stamp` is its stamp
@@ -50,7 +52,7 @@ pub struct Judge {
 }
 
 // The totals: records, the sum of the stamps' differences, STARTs, ACKs and aborted transfers.
-#[derive(Drop)]
+#[derive(Clone, Copy)]
 pub struct Tally {
     pub records: u32,
     pub span: u64,
@@ -61,7 +63,7 @@ pub struct Tally {
 
 // A rule's name: its number in document 01 and, of rule 8, its kind (document 02, wish 2): 1 for 8a, 2 for 8b, 3 for 8c. The other rules
 // are of kind 0; both are 0 where no rule is broken.
-#[derive(Drop)]
+#[derive(Clone, Copy)]
 pub struct Rule {
     pub number: u8,
     pub kind: u8,
@@ -69,7 +71,7 @@ pub struct Rule {
 
 // How far a recording has been judged: the rule that a record broke, by number and kind (0: none so far), the span at that record, and the
 // state and the tally before it.
-#[derive(Drop)]
+#[derive(Clone, Copy)]
 pub struct Progress {
     pub rule: u8,
     pub kind: u8,
@@ -79,7 +81,7 @@ pub struct Progress {
 }
 
 // A broken rule, by number and kind; the place of its record, which is the tally's records before it; and the span there.
-#[derive(Drop)]
+#[derive(Clone, Copy)]
 pub struct Broken {
     pub rule: u8,
     pub kind: u8,
@@ -88,7 +90,7 @@ pub struct Broken {
 }
 
 // What a call of the judge says. The last three are refusals 5, 8 and 1.
-#[derive(Drop)]
+#[derive(Clone, Copy)]
 pub enum Verdict {
     Conforming,
     Breach(Broken),
@@ -98,14 +100,14 @@ pub enum Verdict {
 }
 
 // A verdict with the state that the call leaves, for a caller who lends the tally.
-#[derive(Drop)]
+#[derive(Clone, Copy)]
 pub struct Judged {
     pub verdict: Verdict,
     pub judge: Judge,
 }
 
 // The same all by value.
-#[derive(Drop)]
+#[derive(Clone, Copy)]
 pub struct Outcome {
     pub verdict: Verdict,
     pub judge: Judge,
@@ -113,7 +115,7 @@ pub struct Outcome {
 }
 
 // A fresh judge, or refusal 3.
-#[derive(Drop)]
+#[derive(Clone, Copy)]
 pub enum Fresh {
     Ready(Judge),
     BadLimit,

@@ -1,4 +1,6 @@
 // Sets of slots 0 to 15, as the bits of a u16. A slot over 15 is in no set: every function takes every input.
+#![tactic(auto)]
+
 ghost use Rattle.std.specs.Prelude.{◌≡◌, cond, ◌≤◌, ltb};
 ghost use Rattle.slots.specs.Set.{mem, including, without, top, top_below, card};
 

@@ -1,6 +1,8 @@
 // The program of accounts (document 02, wish 3, "Who used the bus"): it judges the recording on standard input, with hold limit 16 or the one that its
 // argument says, and prints the lines of the judging program and then a line for each slot. It reads, feeds and writes; what the input comes to is
 // decided by `accounts`, and what is printed by `accountlines`.
+#![tactic(auto)]
+
 ghost use Rattle.std.specs.Prelude.{◌≡◌, true, ℕ, ℤ, length};
 ghost use Rattle.basics.specs.Numbers.{lawful_limit};
 ghost use Rattle.usage.specs.Pieces.{fresh_ledger};
@@ -13,7 +15,7 @@ use text::{Number, Place};
 use usage::Ledger;
 
 // The input so far: whether to read on, and whether the last read failed.
-#[derive(Drop)]
+#[derive(Clone, Copy)]
 struct Input {
     ledger: Ledger,
     more: bool,

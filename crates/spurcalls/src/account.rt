@@ -15,7 +15,7 @@ pub(crate) fn zeros() -> [Entry; 17] {
 }
 
 // What the judge says, and the tally and the entries that it leaves.
-#[derive(Drop)]
+#[derive(Clone, Copy)]
 struct Answered {
     judged: Judged,
     tally: Tally,

@@ -2,7 +2,7 @@
 use crate::numbers;
 use cache::{Change, Reading, Refusal};
 
-#[derive(Drop)]
+#[derive(Clone, Copy)]
 pub(crate) struct Sizes {
     pub(crate) memory: usize,
     pub(crate) states: usize,

@@ -1,5 +1,7 @@
 // The library, callable from outside: reads calls of 64 bytes from standard input until it ends and writes an answer of 64 bytes for each.
 // Byte 0 of a call is its operation, byte 0 of an answer the refusal number. CALLS.md in this crate's folder lists the operations.
+#![tactic(auto)]
+
 mod account;
 mod blocks;
 mod cycles;
@@ -12,7 +14,7 @@ use cycle::Bus;
 use recordings::Bench;
 
 // What lasts from call to call, beside the cache tables.
-#[derive(Drop)]
+#[derive(Clone, Copy)]
 struct Desk {
     bus: Bus,
     bench: Bench,
@@ -121,7 +123,7 @@ fn first_desk() -> Desk {
 }
 
 // Whether there is more to answer, and what lasts.
-#[derive(Drop)]
+#[derive(Clone, Copy)]
 struct Turn {
     more: bool,
     desk: Desk,

@@ -7,7 +7,7 @@ use entries::Entry;
 use rules::{Fresh, Judge, Judged, Owner, Tally, Transfer, Verdict, Wave};
 
 // What lasts from call to call.
-#[derive(Drop)]
+#[derive(Clone, Copy)]
 pub(crate) struct Bench {
     pub(crate) judge: Judge,
     pub(crate) tally: Tally,
@@ -100,7 +100,7 @@ fn put_verdict(out: &mut [u8; 64], verdict: Verdict) {
 }
 
 // What the judge says, and the tally that it leaves.
-#[derive(Drop)]
+#[derive(Clone, Copy)]
 struct Answered {
     judged: Judged,
     tally: Tally,

@@ -1,5 +1,7 @@
 // The program of a fleet's figures: its words are numbers, and it prints one line over all of them. What a word says is decided by `figures`, the
 // figures by `fleet`, and the line by `fleetlines`.
+#![tactic(auto)]
+
 ghost use Rattle.std.specs.Prelude.{◌≡◌, ◌-◌, ◌≤◌, ◌<◌, length};
 ghost use Rattle.spurfleet.specs.Words.{is_figure, with_figure, Given, Prints};
 
@@ -10,7 +12,7 @@ use text::{Number, Place};
 const MOST: usize = 4096;
 
 // What there is to say: a line of so many bytes, or why there is none.
-#[derive(Drop)]
+#[derive(Clone, Copy)]
 enum Said {
     Line(usize),
     NoFigure,

@@ -1,6 +1,8 @@
 // The judging program (document 01, "Checked examples"): it judges the recording on standard input, with hold limit 16 or the one that its argument
 // says, and prints two lines, the totals and the verdict. It reads, feeds and writes; what the input comes to is decided by `stream`, and
 // what is printed by `printed`.
+#![tactic(auto)]
+
 ghost use Rattle.std.specs.Prelude.{◌≡◌, true, ℕ, ℤ, length};
 ghost use Rattle.basics.specs.Numbers.{lawful_limit};
 ghost use Rattle.feeding.specs.State.{fresh_stream};
@@ -13,7 +15,7 @@ use reading::Said;
 use text::{Number, Place};
 
 // The input so far: whether to read on, and whether the last read failed.
-#[derive(Drop)]
+#[derive(Clone, Copy)]
 struct Input {
     stream: Stream,
     more: bool,

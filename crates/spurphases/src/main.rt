@@ -1,6 +1,8 @@
 // The program of boot phases (document 02, wish 1): it looks for the marks that its words name in the recording on standard input, and prints the
 // report. It reads, feeds and writes; what the input comes to is decided by `phases`, and what is printed by `phaselines`.
 
+#![tactic(auto)]
+
 ghost use Rattle.std.specs.Prelude.{◌≡◌, ℕ, ◌+◌, ◌^◌, ◌≤◌, ◌<◌, ℤ, length};
 ghost use Rattle.marks.specs.declared.Marks.{Marks};
 ghost use Rattle.marks.specs.State.{begin_refusal, fresh_phases};
@@ -16,14 +18,14 @@ use text::{Number, Place};
 // ---- the words
 
 // What a word says as a mark: a slot and an interrupt number.
-#[derive(Drop)]
+#[derive(Clone, Copy)]
 enum MarkWord {
     Says(u8, u8),
     NotAMark,
 }
 
 // The marks that words name, and whether each of the words is a mark.
-#[derive(Drop)]
+#[derive(Clone, Copy)]
 struct Named {
     marks: Marks,
     good: bool,
@@ -139,7 +141,7 @@ fn marks_given(words: usize) -> Named
 // ---- reading
 
 // The input so far: whether to read on, and whether the last read failed.
-#[derive(Drop)]
+#[derive(Clone, Copy)]
 struct Input {
     phases: Phases,
     more: bool,

@@ -1,6 +1,8 @@
 // The program of worst waits, `spurquote SLOT LIMIT`: it prints what demand 3 proves for a master in that slot under that hold limit. What is proved
 // is answered by `quote`; here it is made into a line.
 
+#![tactic(auto)]
+
 ghost use Rattle.std.specs.Prelude.{◌≡◌, length};
 ghost use Rattle.printed.specs.Adding.{Adds};
 ghost use Rattle.text.specs.Places.{front};
@@ -14,7 +16,7 @@ use text::{Number, Place};
 // ---- the words
 
 // What the program's words ask for: a slot and a hold limit.
-#[derive(Drop)]
+#[derive(Clone, Copy)]
 enum Asked {
     Of(u64, u64),
     NotTwoNumbers,
@@ -69,7 +71,7 @@ fn put_quote(page: &mut [u8], slot: u64, limit: u64) -> Place
 }
 
 // What there is to say: the line, so many bytes at the page's front, or that the words aren't right.
-#[derive(Drop)]
+#[derive(Clone, Copy)]
 enum Said {
     Line(usize),
     BadWords,

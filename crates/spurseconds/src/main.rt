@@ -1,5 +1,7 @@
 // The program of times: each of its words is a number of bus cycles, and for each it prints the time in seconds on a line of its own. It asks for words
 // and writes; what a line says is decided by `put_line`, and so by `figures`.
+#![tactic(auto)]
+
 ghost use Rattle.std.specs.Prelude.{◌≡◌, length};
 ghost use Rattle.text.specs.Places.{front, moved_by, put_at};
 ghost use Rattle.spurseconds.specs.Lines.{time_line, seconds_line, Goes, Told};
@@ -34,7 +36,7 @@ fn put_line(page: &mut [u8], word: &[u8]) -> Place
 // ---- the program
 
 // How it went with a word: its line is printed, or it has none, or the line can't be written.
-#[derive(Drop)]
+#[derive(Clone, Copy)]
 enum Went {
     Printed,
     NoLine,

@@ -1,5 +1,7 @@
 // The program that shows the records of a recording, which is on standard input, from one place to another: as rows, or as a Value Change Dump. It reads,
 // shows and writes; what is shown of a piece is decided by `show_piece`, and what is wrong at the end by `end_found`.
+#![tactic(auto)]
+
 ghost use Rattle.std.specs.Prelude.{◌≡◌, true, ◌*◌, ◌≤◌, ◌<◌, length, take};
 ghost use Rattle.io.specs.Counts.{IsPrefixLen};
 ghost use Rattle.printed.specs.Adding.{Adds};
@@ -14,7 +16,7 @@ use text::{Number, Place};
 use walk::Walk;
 
 // Whether a dump is asked for, and the places of the first and the last record that are to be shown, counted from 0.
-#[derive(Drop)]
+#[derive(Clone, Copy)]
 struct Asked {
     dump: bool,
     from: u64,
@@ -78,7 +80,7 @@ fn put_record(
 }
 
 // A walk, and the place behind the text of what was walked.
-#[derive(Drop)]
+#[derive(Clone, Copy)]
 struct Part {
     walk: Walk,
     place: Place,
@@ -130,7 +132,7 @@ fn show_piece(asked: Asked, walk: Walk, piece: &[u8], text: &mut [u8]) -> Part
 // ---- the end
 
 // What is wrong at the end of the input, or where it is read no further.
-#[derive(Drop)]
+#[derive(Clone, Copy)]
 enum Ending {
     Fine,
     NoRecord,
@@ -174,7 +176,7 @@ fn put_last(asked: Asked, walk: Walk, text: &mut [u8]) -> Place
 // ---- the words
 
 // What the words ask for.
-#[derive(Drop)]
+#[derive(Clone, Copy)]
 enum Request {
     Show(Asked),
     Unclear,

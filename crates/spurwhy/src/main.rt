@@ -1,6 +1,8 @@
 // The program that says why: it judges the recording on standard input, with hold limit 16 or the one that its argument says, and prints the lines of
 // the judging program and, behind a breach's, what the record had and what would have conformed. It reads, feeds and writes; what the input comes to is
 // decided by `witness`, and what is printed by `whylines`.
+#![tactic(auto)]
+
 ghost use Rattle.std.specs.Prelude.{◌≡◌, true, ℕ, ℤ, length};
 ghost use Rattle.basics.specs.Numbers.{lawful_limit};
 ghost use Rattle.witness.specs.State.{fresh_witness};
@@ -13,7 +15,7 @@ use text::{Number, Place};
 use witness::Witness;
 
 // The input so far: whether to read on, and whether the last read failed.
-#[derive(Drop)]
+#[derive(Clone, Copy)]
 struct Input {
     witness: Witness,
     more: bool,

@@ -1,5 +1,7 @@
 // A judge that is fed a recording in pieces of any length (document 01, "The judge" and the judging program of "Checked examples"). Whole records are
 // judged as they lie in the piece; the bytes of a torn one wait in the state for the next piece.
+#![tactic(auto)]
+
 ghost use Rattle.std.specs.Prelude.{◌≡◌, true, cond, List, [], ◌++◌, ℕ, ◌+◌, ◌-◌, ◌^◌, ◌≤◌, ◌<◌, min, length, take};
 ghost use Rattle.std.proofs.Math.Seq.{paste};
 ghost use Rattle.rules.specs.Bounds.{SoundJudge, SoundTally};

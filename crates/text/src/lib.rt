@@ -1,11 +1,13 @@
 // Text in lent buffers: words and numbers put behind one another, and numbers read from words.
+#![tactic(auto)]
+
 ghost use Rattle.std.specs.Prelude.{◌≡◌, true, ◌++◌, ◌+◌, ◌≤◌, ◌<◌, ◌^◌, length, take, drop};
 ghost use Rattle.text.specs.Decimal.{digit, decimal_of};
 ghost use Rattle.text.specs.Numbers.{is_digit, with_digit, capped, number_of};
 ghost use Rattle.text.specs.Places.{front, fits, moved_by, put_at};
 
 // Where the next byte goes, and whether all that was put so far had room.
-#[derive(Drop)]
+#[derive(Clone, Copy)]
 pub struct Place {
     pub at: usize,
     pub room: bool,
@@ -20,7 +22,7 @@ impl Place {
     }
 }
 
-#[derive(Drop)]
+#[derive(Clone, Copy)]
 pub enum Number {
     Is(u64),
     NotANumber,

@@ -1,10 +1,12 @@
 // Who used the bus (document 02, wish 3): the types of what is answered of an account, and what they mean. The code stands in the crate `accounts`.
+#![tactic(auto)]
+
 use entries::Entry;
 use feeding::{Ending, Stream};
 use rules::{Judge, Tally, Verdict};
 
 // What a call that judges with an account leaves, all by value.
-#[derive(Drop)]
+#[derive(Clone, Copy)]
 pub struct Accounted {
     pub verdict: Verdict,
     pub judge: Judge,
@@ -13,7 +15,7 @@ pub struct Accounted {
 }
 
 // One slot's entry, or refusals 5, 1 and 2.
-#[derive(Drop)]
+#[derive(Clone, Copy)]
 pub enum Share {
     Is(Entry),
     OutOfBounds,
@@ -22,21 +24,21 @@ pub enum Share {
 }
 
 // An input that is fed in pieces, with its account so far.
-#[derive(Drop)]
+#[derive(Clone, Copy)]
 pub struct Ledger {
     pub stream: Stream,
     pub entries: [Entry; 16],
 }
 
 // A call's number, 0 where it is accepted, and the state that it leaves.
-#[derive(Drop)]
+#[derive(Clone, Copy)]
 pub struct Posted {
     pub number: u8,
     pub ledger: Ledger,
 }
 
 // What an input comes to, and its account.
-#[derive(Drop)]
+#[derive(Clone, Copy)]
 pub struct Closing {
     pub ending: Ending,
     pub entries: [Entry; 16],

@@ -1,5 +1,7 @@
 // The text of one record in a Value Change Dump (IEEE 1364), as bytes in a lent buffer. It is made on a page that has room for it, whatever the values, and
 // then put into the buffer at once: so a buffer that is too short is not written.
+#![tactic(auto)]
+
 ghost use Rattle.std.specs.Prelude.{◌≡◌, false, ◌++◌, ◌≤◌, length, take, drop};
 ghost use Rattle.io.specs.Digits.{last_digits};
 ghost use Rattle.basics.specs.Lines.{one};

@@ -1,5 +1,7 @@
 // Walking a recording record by record: the place of each record, the cycle in which it stands, counted from the first record's, and the gap before it.
 // Nothing is judged.
+#![tactic(auto)]
+
 ghost use Rattle.std.specs.Prelude.{◌≡◌};
 ghost use Rattle.walk.specs.Walks.{fresh_walk, walk_bounds, step_refusal, gap_before, step_of};
 
@@ -7,7 +9,7 @@ use record::Record;
 use rules::Judge;
 
 // How many records were walked, the cycle of the last one and its lines: all zeros before the first.
-#[derive(Drop)]
+#[derive(Clone, Copy)]
 pub struct Walk {
     pub place: u32,
     pub cycle: u64,
@@ -15,7 +17,7 @@ pub struct Walk {
 }
 
 // What a step gives: 0 or its refusal's number, the walk behind the record, and the record's gap.
-#[derive(Drop)]
+#[derive(Clone, Copy)]
 pub struct Walked {
     pub number: u8,
     pub walk: Walk,

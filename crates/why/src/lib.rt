@@ -1,5 +1,7 @@
 // What a record that breaks a rule had, and what would have conformed, as two figures: by the judge's state before the record, its lines and its spare
 // bits, and the stamp's difference to the last one.
+#![tactic(auto)]
+
 ghost use Rattle.std.specs.Prelude.{◌≡◌, cond, ◌+◌, ◌-◌};
 ghost use Rattle.basics.specs.Lines.{one};
 ghost use Rattle.rules.specs.Rules.{strobe};
@@ -10,7 +12,7 @@ use record::Record;
 use rules::{Judge, Rule, Transfer};
 
 // What was found, and the bound that it had to keep.
-#[derive(Drop)]
+#[derive(Clone, Copy)]
 pub struct Figures {
     pub found: u64,
     pub bound: u64,

@@ -1,5 +1,7 @@
 // The lines of what an input comes to and why, as bytes in a lent buffer. They are made on a page that has room for them, whatever the numbers, and
 // then put into the buffer at once: so a buffer that is too short is not written.
+#![tactic(auto)]
+
 ghost use Rattle.std.specs.Prelude.{◌≡◌, length};
 ghost use Rattle.text.specs.Places.{front, moved_by, put_at};
 ghost use Rattle.printed.specs.Adding.{Adds};

@@ -1,5 +1,7 @@
 // A judge that is fed a recording in pieces of any length and keeps the record that broke a rule: so that it can say at the end what that record had
 // and what would have conformed. The judge is fed as without a witness; its state stays as it was before the breach.
+#![tactic(auto)]
+
 ghost use Rattle.std.specs.Prelude.{◌≡◌, true, ◌++◌, ◌-◌, ◌<◌, take, get_or};
 ghost use Rattle.rules.specs.Recording.{sixteen};
 ghost use Rattle.feeding.specs.State.{padded, stream_bounds};
@@ -10,21 +12,21 @@ use rules::{Broken, Judge, Rule, Verdict};
 use why::Figures;
 
 // The input so far, and the sixteen bytes of the record that broke a rule, zeros where none did.
-#[derive(Drop)]
+#[derive(Clone, Copy)]
 pub struct Witness {
     pub stream: Stream,
     pub bytes: [u8; 16],
 }
 
 // A call's number, 0 where it is accepted, and the state that it leaves.
-#[derive(Drop)]
+#[derive(Clone, Copy)]
 pub struct Noted {
     pub number: u8,
     pub witness: Witness,
 }
 
 // What an input comes to, and the figures of its breach, both 0 where there is none.
-#[derive(Drop)]
+#[derive(Clone, Copy)]
 pub struct Reason {
     pub ending: Ending,
     pub figures: Figures,
