@@ -29,6 +29,8 @@ number_digits (w ∷ ws) n = rw (number_digits ws n) (sym (mod-pow-add n w (widt
 -- a number of fitting digits is within their width
 pub number_lt : (ws vs : List ℕ) → Fit ws vs → number ws vs < 2 ^ width ws
 number_lt [] [] f = omega arith
+number_lt [] (v ∷ vs) f = elim f [ ]
+number_lt (w ∷ ws) [] f = elim f [ ]
 number_lt (w ∷ ws) (v ∷ vs) f = rw (pow-add 2 w (width ws)) (digits_lt f.0 (number_lt ws vs f.1))
 
 -- what stands above the digits' width does not change them
@@ -43,6 +45,8 @@ digits_above (w ∷ ws) x m =
 -- the digits of a number of fitting digits are these
 pub digits_number : (ws vs : List ℕ) → Fit ws vs → digits ws (number ws vs) ≡ vs
 digits_number [] [] f = refl
+digits_number [] (v ∷ vs) f = elim f [ ]
+digits_number (w ∷ ws) [] f = elim f [ ]
 digits_number (w ∷ ws) (v ∷ vs) f =
     ap₂ (λ (a : ℕ) (l : List ℕ). a ∷ l)
     (rw (high v (width ws) (number_lt ws vs f.1)) (mod-eq_of_lt f.0))
