@@ -1,9 +1,8 @@
 -- Document 01, "START codes": "TM1 active is a write. TM0 active: a byte at the address on AD. TM0 inactive, by AD1 AD0: 00 word;
 -- 01 halfword 0; 11 halfword 1; 10 block. A block's length is found in AD2 upwards .. The address has the unit's low bits zero."
-use Rattle.std.specs.Prelude.{ℕ, ◌+◌, ◌-◌, ◌%◌, Bool, true, false, cond, eqb}
+use Rattle.std.specs.Prelude.{ℕ, ◌+◌, ◌-◌, ◌%◌, Bool, false, cond, eqb}
 use Rattle.basics.specs.Lines.{active}
 use Rattle.basics.specs.Answers.{Answer, accepted, refused}
-use Rattle.codes.specs.declared.Unit.{Unit}
 use Rattle.codes.specs.declared.Unit.TheVariants.{Byte, Halfword, Word, Two, Four, Eight, Sixteen}
 use Rattle.codes.specs.declared.Size.{Size}
 use Rattle.codes.specs.declared.Size.TheVariants.{Is, NoMeaning}
