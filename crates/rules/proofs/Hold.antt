@@ -8,7 +8,7 @@ use lib.Dec.{ltb, eqb}
 use borrow.Author.Tests.{ltb-true, lt-ltb, le-ltb, leb-true, le-leb, eqb-true, eq-eqb}
 use Rattle.basics.specs.Lines.{one}
 use Rattle.basics.proofs.Bools.{choice, by-test, and_both, implied, implying}
-use Rattle.codes.specs.Start.{meaning, decode_of}
+use Rattle.codes.specs.Start.{decode_of}
 use Rattle.rules.specs.declared.Transfer.{Transfer}
 use Rattle.rules.specs.declared.Transfer.TheVariants.{Idle, Open}
 use Rattle.basics.specs.Numbers.{watchdog}

@@ -99,4 +99,4 @@ unfolding bit active active_below packed fields_in record_in spare_in parity_of 
 one-before = record { bounded = refl; brief = refl; soon = refl; told = refl }
 
 pub kinds : Kinds
-kinds = record { apart = λ r i b c. c (brief-first r i b); one = one-kind; led = led-to; at_last_lem = at_last_lem; one_before = one-before }
+kinds = record { apart = λ r i b c. c (brief-first r i b); one = one-kind; led = led-to; at_last = at_last_lem; one_before = one-before }
