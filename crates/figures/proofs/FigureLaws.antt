@@ -64,9 +64,9 @@ module _ (word : List ℕ) where
     no_figure e = sym (cond-false _ _ (ap (λ (t : Bool). t && leb (length word) 19) (is_number_lem (ap is_it e))))
 
     module _ {v : ℕ} (e : said ≡ Is v) where
-      pub all_digits : all_digits word ≡ true
+      pub digits_all : all_digits word ≡ true
       unfolding is_number
-      all_digits = (and_both (ltb 0 (length word)) (all_digits word) (is_number_lem (ap is_it e))).1
+      digits_all = (and_both (ltb 0 (length word)) (all_digits word) (is_number_lem (ap is_it e))).1
 
       pub figure_is : {value : ℕ} → length word ≤ 19 → value ≡ value_of word → Is value ≡ figure_of word
       unfolding figure_of
