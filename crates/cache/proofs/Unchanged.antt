@@ -7,10 +7,10 @@ use lib.Dec.{eqb}
 use lib.ListN.{get_or, set}
 use lib.Seq.{set-get_or}
 use Rattle.basics.proofs.Bools.{choice, cond-true, cond-false, not-true}
-use Rattle.cache.specs.States.{invalid, valid, owns}
+use Rattle.cache.specs.States.{valid, owns}
 use Rattle.cache.specs.Block.{Block}
 use Rattle.cache.specs.Operations.{block_read, copy_left, block_written, block_evicted}
-use Rattle.cache.specs.Tables.{Tables, tables, entries, block_of, with_block}
+use Rattle.cache.specs.Tables.{Tables, entries, block_of, with_block}
 use Rattle.cache.specs.Calls.{refusal, after, after_read, after_write, after_evict}
 use Rattle.cache.proofs.States.{owner-valid, not_valid}
 use Rattle.cache.proofs.Placed.{placed-own, placed_same}
