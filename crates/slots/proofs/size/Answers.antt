@@ -2,11 +2,7 @@
 -- Assumes nothing.
 use mathlib.Core.Path.{sym}
 use Rattle.basics.proofs.Count.{active_ones}
-use Rattle.slots.proofs.size.Statement.{statement}
-use Rattle.slots.proofs.size.Tie as tie
+use Rattle.slots.proofs.size.Goals as goal
 
-returns : tie.Need-returns
+pub returns : goal.returns
 returns c = sym (active_ones 16 c.args.set c.ranges.set.fits)
-
-pub size_spec : {M : Type 1} → statement M
-size_spec = tie.close (tie.spec returns)
