@@ -1,7 +1,7 @@
 -- A START comes only where no transfer was open before the cycle. Assumes nothing.
 use Prim.Native.Nat.{ℕ}
 use mathlib.Core.Path.{◌≡◌, ap, subst}
-use mathlib.Core.Bool.{true, false, false≢true}
+use mathlib.Core.Bool.{true, false≢true}
 use Rattle.cycle.specs.declared.Bus.{Bus}
 use Rattle.cycle.specs.declared.Arbitration.{Arbitration}
 use Rattle.cycle.specs.declared.Owner.TheVariants.{Slot}

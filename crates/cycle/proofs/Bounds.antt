@@ -23,7 +23,7 @@ use Rattle.cycle.specs.declared.Note.TheVariants.{Clear, Extra}
 use Rattle.basics.specs.Numbers.{watchdog, transfer_most}
 use Rattle.cycle.specs.Bounds.{lawful_word, lawful_below, lawful_words}
 use Rattle.cycle.specs.Arbitration.{attends}
-use Rattle.cycle.specs.Transfers.{expires, opened, aged, timed_out, watched, taken, struck, going_on, progress_of}
+use Rattle.cycle.specs.Transfers.{expires, opened, watched, struck, going_on, progress_of}
 
 -- the cycles that an open transfer may still last: the watchdog's for each word owed
 unfoldable pub left : Transfer → ℕ

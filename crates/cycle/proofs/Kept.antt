@@ -18,7 +18,6 @@ use Rattle.cycle.specs.declared.Owner.TheVariants.{Nobody, Slot}
 use Rattle.cycle.specs.declared.Transfer.{Transfer}
 use Rattle.cycle.specs.declared.Transfer.TheVariants.{Idle, Open}
 use Rattle.cycle.specs.State.{fresh}
-use Rattle.basics.specs.Numbers.{lawful_limit}
 use Rattle.cycle.specs.Bounds.{lawful_counts, lawful_owner, lawful_transfer, lawful_rest, in_bounds, lawful_words}
 use Rattle.cycle.specs.Cycle.{step_of}
 use Rattle.cycle.specs.Nodes.{sets_of, step_table_of}

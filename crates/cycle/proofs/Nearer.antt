@@ -3,7 +3,7 @@
 use Prim.Native.Nat.{ℕ, suc, ◌-◌, ◌<◌, ◌≤◌, max}
 use mathlib.Core.Path.{◌≡◌, subst}
 use native.Mathlib.Omega.{arith}
-use Rattle.basics.specs.Numbers.{watchdog, transfer_most}
+use Rattle.basics.specs.Numbers.{transfer_most}
 use Rattle.cycle.specs.declared.Bus.{Bus}
 use Rattle.cycle.specs.declared.Transfer.TheVariants.{Open}
 use Rattle.cycle.specs.Arbitration.{waits}
