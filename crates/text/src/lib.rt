@@ -107,7 +107,8 @@ pub fn put_named(buffer: &mut [u8], place: Place, name: &[u8], n: u64) -> Place
     let first = spell(n, &mut digits);
     let behind = moved(buffer.len(), place, name.len());
     let both = moved(buffer.len(), behind, 20 - first);
-    if both.room {
+    let fit = both.room;
+    if fit {
         put_word(buffer, place, name);
         put_word(buffer, behind, &digits[first..]);
     }
