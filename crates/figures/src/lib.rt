@@ -31,7 +31,8 @@ fn value_in(word: &[u8]) -> u64
 pub fn figure_in(word: &[u8]) -> Number
     ensures { result ≡ figure_of word.now }
 {
-    if word.len() > 19 {
+    let too_long = word.len() > 19;
+    if too_long {
         return Number::NotANumber;
     }
     match text::number_in(word) {
