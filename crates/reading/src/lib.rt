@@ -7,9 +7,17 @@ ghost use Rattle.io.specs.Counts.{IsPrefixLen};
 ghost use Rattle.reading.specs.Reads.{brought_by};
 ghost use Rattle.reading.specs.Words.{limit_given};
 
-use libc::STDIN_FILENO;
 use rules::Judge;
+use std::env::{Env, FillError};
+use std::io::{Read, Stdin};
 use text::Number;
+
+// The descriptors of a program's input and of what it writes.
+pub const STDIN: i32 = 0;
+
+pub const STDOUT: i32 = 1;
+
+pub const STDERR: i32 = 2;
 
 // Every read but the last brings a byte or more, and with the bytes of one record past 2^30 no more of an input counts: so many reads are enough.
 pub const TURNS: u64 = (Judge::MOST_RECORDS as u64 + 1) * 16;
@@ -41,13 +49,37 @@ fn taken(got: isize, buffer: &[u8]) -> Brought
     }
 }
 
-// Reads once from standard input.
-pub fn read_once(buffer: &mut [u8]) -> Brought
+// Reads once from standard input. A call that a signal interrupts is one that failed.
+pub fn read_once(mut input: Stdin, buffer: &mut [u8]) -> Brought
     ensures value { (got : ℤ) × (result ≡ brought_by (record { got = got; buffer = buffer.new })) }
     ensures prefix_len { IsPrefixLen result.size buffer.new }
 {
-    let got = libc::read(STDIN_FILENO, buffer);
+    let got = match input.read(buffer) {
+        Ok(n) => n as isize,
+        Err(_) => -1,
+    };
     taken(got, buffer)
+}
+
+// How many words the program was started with, its own name among them.
+pub fn words_given(rt: &impl Env) -> usize {
+    let mut byte = [0u8; 1];
+    for i in 0..usize::MAX {
+        if let Err(FillError::NotPresent) = rt.arg(i, &mut byte) {
+            return i;
+        }
+    }
+    usize::MAX
+}
+
+// Puts word i of the program at the buffer's front and answers its size: 0 where it is missing or has no room.
+pub fn word_given(rt: &impl Env, i: usize, word: &mut [u8]) -> usize
+    ensures { IsPrefixLen result word.new }
+{
+    match rt.arg(i, word) {
+        Ok(n) => n,
+        Err(_) => 0,
+    }
 }
 
 // A number of a program's words as the library takes it: any over 255 is as unlawful as 255.
