@@ -1,0 +1,33 @@
+-- `stream::complete` meets its contract. Assumes nothing.
+use mathlib.Core.Path.{sym}
+use native.Mathlib.Omega.{arith}
+use lib.Seq.{length-take-le}
+use Rattle.stream.proofs.Calls.{fills, front-size, goes_on, ends_there, bounds_kept}
+use borrow.Author.Rules.{rules}
+use Rattle.stream.proofs.complete.Goals as goal
+
+pub slice_bounds-filled-end : goal.slice_bounds-filled-end
+slice_bounds-filled-end c = let h = c.least-n.ensures in sym (length-take-le _ _ (omega arith))
+
+pub filled-front-requires : goal.filled-front-requires
+filled-front-requires c = let a = c.args in fills a.torn a.piece.now a.held c.least-n.result (search rules) c.requires.1.1.1 c.least-n.ensures
+
+pub slice_bounds-go_on-end : goal.slice_bounds-go_on-end
+slice_bounds-go_on-end c = let a = c.args in front-size a.torn a.piece.now a.held c.least-n.result (search rules) c.requires.1.1.1 c.least-n.ensures c.filled-front.result c.filled-front.ensures
+
+pub go_on-next-requires : goal.go_on-next-requires
+go_on-next-requires c = let a = c.args in let pre = c.requires in bounds_kept a.judge a.tally _ c.go_on-first.result pre.0 pre.1.0 pre.1.1.0 c.go_on-first.ensures
+
+pub returns-then-is_going-n : goal.returns-then-is_going-n
+returns-then-is_going-n c = let a = c.args in
+    let pre = c.requires in
+    goes_on a.torn a.piece.now a.held c.least-n.result (search (rules, c.well_formed.1.1.0)) pre.1.1.1 c.least-n.ensures
+    a.judge a.tally pre.1.1.0 c.filled-front.result c.filled-front.ensures c.go_on-first.result c.go_on-first.ensures c.is_going.result c.is_going.ensures
+    c.go_on-next.result c.go_on-next.ensures c.if-is_going-n.true
+
+pub returns : goal.returns
+returns c = let a = c.args in
+    let pre = c.requires in
+    ends_there a.torn a.piece.now a.held c.least-n.result (search (rules, c.well_formed.1.1.0)) pre.1.1.1 c.least-n.ensures
+    a.judge a.tally pre.1.1.0 c.filled-front.result c.filled-front.ensures c.go_on-first.result c.go_on-first.ensures c.is_going.result c.is_going.ensures
+    c.if-is_going-n.false
