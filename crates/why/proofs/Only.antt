@@ -1,12 +1,13 @@
 -- A record has one pair of figures for a rule: no two satisfy `Found`. Assumes nothing.
-use Prim.Native.Nat.{ℕ, ◌+◌}
-use mathlib.Core.Path.{◌≡◌, refl, ap, subst, sym}
+use Prim.Native.Nat.{ℕ, suc, ◌+◌}
+use mathlib.Core.Path.{◌≡◌, refl, ap, ◌∙◌}
 use native.Mathlib.Omega.{arith}
 use Rattle.rules.specs.declared.Rule.{Rule}
-use Rattle.rules.specs.Recording.{Lines, Recording, cycle, Opened, Began, LastStart, words_at}
+use Rattle.rules.specs.Recording.{Lines, Recording, cycle, words_at, strobe_of, count}
 use Rattle.rules.proofs.Hold.{opened-only, ages_only}
 use Rattle.rules.proofs.Ride.{began_only, last-only}
 use Rattle.why.specs.declared.Figures.{Figures}
+use Rattle.why.specs.Figures.{figures}
 use Rattle.why.specs.Found.{Found, spare, stamp, parity, opened, soon, above, often, old, strobes, fifth, sixth, seventh, parked, brief, ninth}
 
 -- from one record to record i there is one number of cycles
@@ -34,7 +35,8 @@ found-only limit r i _ _ _ (strobes k x o e) (strobes n y q d) =
     let s = opened-only r.lines i k n o q in
     let t : words_at r.lines k ≡ words_at r.lines n = rw s in
     let u : x ≡ y = omega arith in
-    rw (s, u)
+    ap (λ (m : ℕ). figures (count (strobe_of r.lines m) (suc i)) x) s
+    ∙ ap (λ (b : ℕ). figures (count (strobe_of r.lines n) (suc i)) b) u
 found-only limit r i _ _ _ fifth fifth = refl
 found-only limit r i _ _ _ sixth sixth = refl
 found-only limit r i _ _ _ seventh seventh = refl
