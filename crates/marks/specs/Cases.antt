@@ -1,5 +1,5 @@
 -- Worked cases, in pairs: a recording that has the mark by a hair, and a near twin that has not. Each is reported on as bytes, from the start.
-use Rattle.std.specs.Prelude.{ℕ, ◌+◌, true, false, List, [], ◌∷◌, ◌++◌, ◌≡◌, length, take, replicate}
+use Rattle.std.specs.Prelude.{ℕ, true, false, List, [], ◌∷◌, ◌++◌, ◌≡◌, length, take, replicate}
 use Rattle.record.specs.declared.Record.{Record}
 use Rattle.rules.specs.Cases.{cycle_at, idle, asks, reads, acks, fails, times_out, strobes, resets, bytes_of}
 use Rattle.marks.specs.declared.Mark.{Mark}
