@@ -1,6 +1,6 @@
 -- What a caller of the judge with an account is told. Assumes nothing.
 use Prim.Native.Nat.{ℕ, ◌+◌, ◌-◌, ◌/◌, ◌%◌, ◌≤◌, ◌<◌}
-use mathlib.Core.Bool.{true, false, ◌&&◌, false≢true, and-true}
+use mathlib.Core.Bool.{true, ◌&&◌, false≢true, and-true}
 use mathlib.Core.List.{List, ◌++◌}
 use mathlib.Core.Path.{◌≡◌, refl, sym, ap, subst, ◌∙◌}
 use mathlib.Core.Logic.{inl, inr}
@@ -25,7 +25,7 @@ use Rattle.rules.specs.Verdict.{most_records, refusal_of, refused_by, outcome_of
 use Rattle.rules.specs.Exact.{conforms, After, fresh, later}
 use Rattle.rules.proofs.Laws.{SoundProgress, unless-zero, run_sound, fresh-sound, sound-tally, records-append, outcome-judged, outcome-refused}
 use Rattle.rules.proofs.Reach.{Reached, Ended, reached}
-use Rattle.rules.proofs.Told.{start, PastIs, past_is, refused-not, open_of, zero-sound, told}
+use Rattle.rules.proofs.Told.{start, PastIs, past_is, refused-not, open_of, zero-sound}
 use Rattle.feeding.proofs.GoOn.{run_count}
 use Rattle.usage.specs.declared.Accounted.{Accounted}
 use Rattle.usage.specs.Using.{Used, UsedBy}

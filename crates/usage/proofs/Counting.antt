@@ -16,7 +16,7 @@ use Rattle.rules.specs.declared.Tally.{Tally}
 use Rattle.rules.specs.Recording.{Lines, Recording, recording_in, sixteen, gap}
 use Rattle.rules.specs.Run.{Taken, rule_of, records_in}
 use Rattle.rules.specs.State.{is_open, diff_of, judge_of, tally_of, fresh_judge, zero_tally}
-use Rattle.rules.specs.Thirteen.{rules, from_third, AllKept, Keeps, Rule8a}
+use Rattle.rules.specs.Thirteen.{from_third, AllKept, Keeps, Rule8a}
 use Rattle.rules.specs.Totals.{Number, none, more, other}
 use Rattle.rules.proofs.Laws.{arb-le}
 use Rattle.rules.proofs.Places.{clash}

@@ -15,7 +15,7 @@ use Rattle.rules.specs.declared.Judge.{Judge}
 use Rattle.rules.specs.declared.Tally.{Tally}
 use Rattle.rules.specs.declared.Progress.{Progress}
 use Rattle.rules.specs.Bounds.{SoundJudge}
-use Rattle.rules.specs.Recording.{Lines, gap, cycle}
+use Rattle.rules.specs.Recording.{Lines, gap}
 use Rattle.rules.specs.State.{diff_of}
 use Rattle.rules.specs.Run.{Taken, taken_in, records_in, from, run_of}
 use Rattle.rules.specs.Totals.{sum}

@@ -14,7 +14,7 @@ use Rattle.rules.specs.Recording.{Recording, recording_in, cycle, Opened}
 use Rattle.rules.specs.Thirteen.{Keeps}
 use Rattle.rules.specs.State.{zero_tally}
 use Rattle.rules.specs.Verdict.{fresh_of}
-use Rattle.rules.specs.Exact.{counted, Told}
+use Rattle.rules.specs.Exact.{Told}
 use Rattle.usage.specs.declared.Accounted.{Accounted}
 use Rattle.usage.specs.Using.{Busy, Used, UsedBy}
 use Rattle.usage.specs.Charge.{none_used}
