@@ -16,7 +16,7 @@ use Rattle.record.specs.Layout.{fields, values}
 use Rattle.record.specs.Packing.{wider_than, too_wide}
 use Rattle.figures.proofs.DigitLaws.{digits-length, glyph_low}
 use Rattle.vcdlines.specs.Signals.{Signal, signals, levels_of, levels, first_code}
-use Rattle.vcdlines.specs.Dump.{change_of, changes_of}
+use Rattle.vcdlines.specs.Dump.{changes_of}
 use Rattle.vcdlines.proofs.ChangeLaws.{changed, unchanged, levels-length}
 
 -- ---- the signals are the fields of document 01's line record, in its order and with its widths, without the stamp and the spare bits
@@ -27,10 +27,10 @@ pub signals_worth : (r : Record) → map (λ (s : Signal). s.value r) signals �
 signals_worth r = refl
 
 -- ---- a reader: at each line in its order, it takes the level of a text whose next code is the line's, and else keeps the level that it has
-abbrev pub read_back_lem : ℕ → List ℕ → List ℕ → List ℕ
-read_back_lem code [] text = []
-read_back_lem code (b ∷ befores) text =
-    cond (eqb (get_or text 1 0) code) (get_or text 0 0 ∷ read_back_lem (suc code) befores (drop 3 text)) (b ∷ read_back_lem (suc code) befores text)
+abbrev pub read_back : ℕ → List ℕ → List ℕ → List ℕ
+read_back code [] text = []
+read_back code (b ∷ befores) text =
+    cond (eqb (get_or text 1 0) code) (get_or text 0 0 ∷ read_back (suc code) befores (drop 3 text)) (b ∷ read_back (suc code) befores text)
 
 -- no text of later lines has this code next
 later : (first : Bool) (code from : ℕ) (xs ys : List ℕ) → 0 < code → code < from → get_or (changes_of first from xs ys) 1 0 ≡ code → ⊥
@@ -49,14 +49,14 @@ same_level true x y t = absurd (true≢false t)
 same_level false x y t = by-test (eqb x y) (λ e. eqb-true x y e) (λ e. absurd (true≢false (sym (ap not e) ∙ t)))
 
 -- READ BACK, the changes from one list of levels to another give the other
-pub read_back_lem : (first : Bool) (code : ℕ) (xs ys : List ℕ) → 0 < code → length xs ≡ length ys → read_back_lem code xs (changes_of first code xs ys) ≡ ys
+pub read_back_lem : (first : Bool) (code : ℕ) (xs ys : List ℕ) → 0 < code → length xs ≡ length ys → read_back code xs (changes_of first code xs ys) ≡ ys
 read_back_lem first code [] [] p e = refl
 read_back_lem first code [] (y ∷ ys) p e = absurd (omega arith)
 read_back_lem first code (x ∷ xs) [] p e = absurd (omega arith)
 read_back_lem first code (x ∷ xs) (y ∷ ys) p e =
     let rest = changes_of first (suc code) xs ys in
-    let left : read_back_lem (suc code) xs rest ≡ ys = read_back_lem first (suc code) xs ys (omega arith) (omega arith) in
-    let read : List ℕ → List ℕ = λ z. read_back_lem code (x ∷ xs) (z ++ rest) in
+    let left : read_back (suc code) xs rest ≡ ys = read_back_lem first (suc code) xs ys (omega arith) (omega arith) in
+    let read : List ℕ → List ℕ = λ z. read_back code (x ∷ xs) (z ++ rest) in
     by-test (first || not (eqb x y))
     (λ t. ap read (changed first code x y t) ∙ cond-true _ _ (eq-eqb code code refl) ∙ ap (λ (z : List ℕ). y ∷ z) left)
     (λ t. ap read (unchanged first code x y t)
@@ -65,7 +65,7 @@ read_back_lem first code (x ∷ xs) (y ∷ ys) p e =
     ∙ ap (λ (v : ℕ). v ∷ ys) (same_level first x y t))
 
 -- so of a record
-pub record_back : (first : Bool) (last lines : Record) → read_back_lem first_code (levels last) (changes_of first first_code (levels last) (levels lines)) ≡ levels lines
+pub record_back : (first : Bool) (last lines : Record) → read_back first_code (levels last) (changes_of first first_code (levels last) (levels lines)) ≡ levels lines
 record_back first last lines = read_back_lem first first_code (levels last) (levels lines) (omega arith) (levels-length last ∙ sym (levels-length lines))
 
 -- ---- and the levels tell the values

@@ -1,6 +1,6 @@
 -- The text of one record in a Value Change Dump (IEEE 1364), as bytes, each line with its newline: "for the first record shown `#S` and the values of
 -- all 81 lines; for each later one `#S` and those that have changed". A time is a bus cycle.
-use Rattle.std.specs.Prelude.{ℕ, suc, ◌+◌, ◌-◌, ◌^◌, min, Bool, true, false, cond, not, ◌&&◌, ◌||◌, List, [], ◌∷◌, ◌++◌, eqb, ltb}
+use Rattle.std.specs.Prelude.{ℕ, suc, ◌+◌, ◌-◌, ◌^◌, min, Bool, false, cond, not, ◌&&◌, ◌||◌, List, [], ◌∷◌, ◌++◌, eqb, ltb}
 use Rattle.text.specs.Decimal.{decimal_of}
 use Rattle.text.specs.Words.{word}
 use Rattle.record.specs.declared.Record.{Record}
