@@ -147,6 +147,7 @@ pub fn is_owned(owner: Owner) -> bool
 }
 
 // The verdict of a call that is refused by this number.
+#[tactic(auto, unfolding(crate::specs::Verdict::refused_by))]
 pub fn refused_by(number: u8) -> Verdict
     ensures { result ≡ refused_by number }
 {
