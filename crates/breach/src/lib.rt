@@ -17,6 +17,7 @@ pub const AGE_MOST: u64 = Judge::WATCHDOG as u64;
 // ---- what the judge's state says of the cycles before
 
 // "The stamp's difference to the last one, modulo 2^32"; the first record has none.
+#[tactic(auto, unfolding(rules::specs::State::diff_of))]
 pub fn difference(judge: Judge, stamp: u32) -> u32
     ensures { result ≡ diff_of judge stamp }
 {
