@@ -1,6 +1,6 @@
 -- `judge::quick::quick_run` meets its contract. Assumes nothing.
 use native.Mathlib.Omega.{arith}
-use mathlib.Core.Path.{refl, ap, ◌∙◌}
+use mathlib.Core.Path.{◌≡◌, refl, ap, ◌∙◌}
 use Rattle.rules.specs.Run.{step_of}
 use Rattle.judge.proofs.Runs.{record_of, left_starts, left_again}
 use Rattle.judge.proofs.quick.quick_run.Goals as goal
@@ -18,7 +18,7 @@ pub returns-then-next-ne0 : goal.returns-then-next-ne0
 returns-then-next-ne0 c = c.loop-i.invariant.1
 
 pub loop-i-preserved : goal.loop-i-preserved
-loop-i-preserved c = let z = c.if-next-ne0.false in
+loop-i-preserved c = let z : c.quick-next.result.rule ≡ 0 = omega arith in
     let part = c.args.part.now in
     let whole = c.loop-i.invariant.0 in
     let under = c.loop-i-test.true in
