@@ -1,5 +1,5 @@
 -- Laws of the pass: what is left to charge leads to the same account, and no sum gets too great. Assumes nothing.
-use Rattle.std.proofs.Common.{◌≡◌, ℕ, suc, ◌+◌, ◌-◌, ◌*◌, ◌^◌, ◌<◌, ◌≤◌, Bool, true, false, not, ◌&&◌, eqb, List, length, get_or, take, drop, set, sym, refl, ap, ◌∙◌, subst, arith, take-take, drop-drop}
+use Rattle.std.proofs.Common.{◌≡◌, ℕ, suc, ◌+◌, ◌-◌, ◌*◌, ◌^◌, ◌<◌, ◌≤◌, true, false, not, ◌&&◌, eqb, List, length, get_or, take, drop, set, sym, refl, ap, ◌∙◌, subst, arith, take-take, drop-drop}
 use native.Mathlib.Nat.{sub-zero}
 use Rattle.basics.specs.Lines.{one}
 use Rattle.basics.proofs.Bools.{choice, cond-true, cond-false}

@@ -1,5 +1,5 @@
 -- What a piece that is fed leaves to charge, and that it may be charged. Assumes nothing.
-use Rattle.std.proofs.Common.{◌≡◌, ℕ, ◌+◌, ◌-◌, ◌^◌, ◌<◌, ◌≤◌, true, false, List, ◌++◌, take, sym, ap, ◌∙◌, subst, arith}
+use Rattle.std.proofs.Common.{◌≡◌, ℕ, ◌-◌, ◌^◌, ◌<◌, ◌≤◌, true, false, List, ◌++◌, take, sym, ap, ◌∙◌, subst, arith}
 use Rattle.basics.specs.Numbers.{lawful_limit}
 use Rattle.basics.proofs.Bools.{by-test, push, and_both, cond-true, cond-false}
 use Rattle.entries.specs.declared.Entry.{Entry}

@@ -1,6 +1,6 @@
 -- The calls with an account by value: its sixteen entries, with nothing for each that the caller's account lacks, and how many that one has. The promise is
 -- `accounted_of` and `share_of` (usage/specs/Calls) of the caller's account; the proofs show that these are the same.
-use Rattle.std.specs.Prelude.{ℕ, ◌/◌, List, length}
+use Rattle.std.specs.Prelude.{ℕ, List, length}
 use Rattle.basics.specs.Answers.{Answer}
 use Rattle.entries.specs.declared.Entry.{Entry}
 use Rattle.rules.specs.declared.Judge.{Judge}
