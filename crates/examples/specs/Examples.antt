@@ -1,5 +1,5 @@
 -- Document 01, "Checked examples": "Of the cases below only those marked P are proved, gathered as one table under a single statement".
-use Rattle.std.specs.Prelude.{ℕ, ◌+◌, ◌^◌, ◌≡◌, List, [], ◌∷◌, ◌++◌, true, false, get_or, replicate}
+use Rattle.std.specs.Prelude.{◌+◌, ◌^◌, ◌≡◌, [], ◌∷◌, ◌++◌, true, false, get_or, replicate}
 use Rattle.basics.specs.Answers.{accepted, refused}
 use Rattle.record.specs.declared.Record.{Record}
 use Rattle.record.specs.Layout.{packed}
