@@ -28,7 +28,8 @@ fn put_figures(page: &mut [u8], place: Place, s: Summary) -> Place
 fn put_rest(page: &mut [u8], place: Place, s: Summary) -> Place
     ensures { Adds page.old place page.new result (rest_text s) }
 {
-    if s.count == 0 {
+    let none = s.count == 0;
+    if none {
         place
     } else {
         put_figures(page, place, s)
