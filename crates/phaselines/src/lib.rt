@@ -17,7 +17,8 @@ const PAGE: usize = 4096;
 fn put_diff(page: &mut [u8], place: Place, k: usize, diff: u64) -> Place
     ensures { Adds page.old place page.new result (diff_part k diff) }
 {
-    if k == 0 {
+    let first = k == 0;
+    if first {
         place
     } else {
         text::put_named(page, place, b" diff ", diff)

@@ -6,8 +6,8 @@ use Rattle.phaselines.specs.Lines.{diff_part}
 use Rattle.phaselines.proofs.LineLaws.{diff_later}
 use Rattle.phaselines.proofs.put_diff.Goals as goal
 
-pub returns-then-k-eq0 : goal.returns-then-k-eq0
-returns-then-k-eq0 c = let a = c.args in adds_as (ap (λ (k : ℕ). diff_part k a.diff) c.if-k-eq0.true) adds_none
+pub returns-then-first : goal.returns-then-first
+returns-then-first c = let a = c.args in adds_as (ap (λ (k : ℕ). diff_part k a.diff) c.if-first.true) adds_none
 
-pub returns-else-k-eq0 : goal.returns-else-k-eq0
-returns-else-k-eq0 c = adds_as (diff_later _ _ c.if-k-eq0.false) (adds_put c.put_named.ensures)
+pub returns-else-first : goal.returns-else-first
+returns-else-first c = adds_as (diff_later _ _ c.if-first.false) (adds_put c.put_named.ensures)
