@@ -11,7 +11,6 @@ use Rattle.basics.specs.Order.{unless}
 use Rattle.basics.proofs.Bools.{by-test, cond-true, cond-false, and_both}
 use Rattle.rules.specs.Exact.{joined}
 use Rattle.rules.proofs.Laws.{unless-zero}
-use Rattle.rules.proofs.Places.{off_iff}
 use Rattle.record.specs.declared.Record.{Record}
 use Rattle.feeding.specs.declared.Stream.{Stream}
 use Rattle.feeding.specs.declared.Fed.{Fed}
@@ -31,11 +30,6 @@ use Rattle.marks.specs.Report.{diffs_of, Right}
 use Rattle.marks.specs.State.{some_marks, named_to, lawful_marks, begin_refusal, seen_of, all_found, under_way, rises_to, phases_bounds, with_stream, saw_of, fresh_search, fresh_phases, no_marks, no_phases, begun_of, fed_phases, phased_of, lacking, report_with, no_report, report_of}
 use Rattle.marks.proofs.Phasing.{phasing}
 use Rattle.phases.specs.Parts.{Fit}
-
--- `not` taken back
-pub on_of : (b : Bool) → not b ≡ false → b ≡ true
-on_of true e = refl
-on_of false e = sym e
 
 pub under_way_is : (p : Phases) (g a : Bool) → g ≡ goes p.stream.stop → a ≡ all_found p → (g && not a) ≡ under_way p
 unfolding under_way
@@ -104,35 +98,35 @@ bounded p e =
 
 -- ---- the calls
 module _ (limit : ℕ) (m : Marks) (none : Fed) (ze : none ≡ fresh_of 0) where
-  no_stream : none.stream ≡ no_stream
+  none_is : none.stream ≡ no_stream
   unfolding fresh_of
-  no_stream = ap (λ (f : Fed). f.stream) ze
+  none_is = ap (λ (f : Fed). f.stream) ze
 
   refused_is : (n : ℕ) (x : Phased) → (n ≡ 0 → ⊥) → begin_refusal limit m ≡ n → x ≡ record { number = n; phases = record { stream = none.stream; marks = no_marks; search = fresh_search } } → x ≡ begun_of limit m
   unfolding begun_of no_phases
   refused_is n x ne e xe =
       xe
-      ∙ ap (λ (s : Stream). record { number = n; phases = record { stream = s; marks = no_marks; search = fresh_search } }) no_stream
+      ∙ ap (λ (s : Stream). record { number = n; phases = record { stream = s; marks = no_marks; search = fresh_search } }) none_is
       ∙ ap (λ (k : ℕ). record { number = k; phases = record { stream = no_stream; marks = no_marks; search = fresh_search } }) (sym e)
       ∙ sym (cond-false _ _ (ap (λ (k : ℕ). eqb k 0) e ∙ ne_eqb n 0 ne))
 
   module _ (some : Bool) (se : some ≡ some_marks m) where
-    pub refused_9 : (x : Phased) → not some ≡ true → x ≡ record { number = 9; phases = record { stream = none.stream; marks = no_marks; search = fresh_search } } → x ≡ begun_of limit m
+    pub refused_9 : (x : Phased) → some ≡ false → x ≡ record { number = 9; phases = record { stream = none.stream; marks = no_marks; search = fresh_search } } → x ≡ begun_of limit m
     unfolding begin_refusal
-    refused_9 x off xe = refused_is 9 x (λ z. absurd (omega arith)) (ap (λ (b : Bool). unless b 9 (unless (named_to m m.count) 2 (unless (lawful_limit limit) 3 0))) (sym se ∙ (off_iff some).0 off)) xe
+    refused_9 x off xe = refused_is 9 x (λ z. absurd (omega arith)) (ap (λ (b : Bool). unless b 9 (unless (named_to m m.count) 2 (unless (lawful_limit limit) 3 0))) (sym se ∙ off)) xe
 
-    module _ (on : not some ≡ false) (named : Bool) (ne : named ≡ named_to m m.count) where
+    module _ (on : some ≡ true) (named : Bool) (ne : named ≡ named_to m m.count) where
       past_9 : some_marks m ≡ true
-      past_9 = sym se ∙ on_of some on
+      past_9 = sym se ∙ on
 
-      pub refused_2 : (x : Phased) → not named ≡ true → x ≡ record { number = 2; phases = record { stream = none.stream; marks = no_marks; search = fresh_search } } → x ≡ begun_of limit m
+      pub refused_2 : (x : Phased) → named ≡ false → x ≡ record { number = 2; phases = record { stream = none.stream; marks = no_marks; search = fresh_search } } → x ≡ begun_of limit m
       unfolding begin_refusal
-      refused_2 x off xe = refused_is 2 x (λ z. absurd (omega arith)) (ap (λ (b : Bool). unless b 9 (unless (named_to m m.count) 2 (unless (lawful_limit limit) 3 0))) past_9 ∙ ap (λ (b : Bool). unless b 2 (unless (lawful_limit limit) 3 0)) (sym ne ∙ (off_iff named).0 off)) xe
+      refused_2 x off xe = refused_is 2 x (λ z. absurd (omega arith)) (ap (λ (b : Bool). unless b 9 (unless (named_to m m.count) 2 (unless (lawful_limit limit) 3 0))) past_9 ∙ ap (λ (b : Bool). unless b 2 (unless (lawful_limit limit) 3 0)) (sym ne ∙ off)) xe
 
-      module _ (yes : not named ≡ false) (begun : Fed) (be : begun ≡ fresh_of limit) where
+      module _ (yes : named ≡ true) (begun : Fed) (be : begun ≡ fresh_of limit) where
         past_2 : begin_refusal limit m ≡ unless (lawful_limit limit) 3 0
         unfolding begin_refusal
-        past_2 = ap (λ (b : Bool). unless b 9 (unless (named_to m m.count) 2 (unless (lawful_limit limit) 3 0))) past_9 ∙ ap (λ (b : Bool). unless b 2 (unless (lawful_limit limit) 3 0)) (sym ne ∙ on_of named yes)
+        past_2 = ap (λ (b : Bool). unless b 9 (unless (named_to m m.count) 2 (unless (lawful_limit limit) 3 0))) past_9 ∙ ap (λ (b : Bool). unless b 2 (unless (lawful_limit limit) 3 0)) (sym ne ∙ yes)
 
         number_is : begun.number ≡ unless (lawful_limit limit) 3 0
         unfolding fresh_of

@@ -1,0 +1,25 @@
+-- `phases::take_in` meets its contract. Assumes nothing.
+use mathlib.Core.Path.{sym, ◌∙◌}
+use native.Mathlib.Omega.{arith}
+use Rattle.marks.proofs.Onward.{fed_over}
+use Rattle.phases.proofs.Calls.{bounded}
+use Rattle.phases.proofs.Parts.{few, short_is, through_needs, both_parts}
+use Rattle.phases.proofs.take_in.Goals as goal
+
+pub returns-then-not-is_under_way : goal.returns-then-not-is_under_way
+returns-then-not-is_under_way c = sym (fed_over c.args.phases c.args.piece.now (sym c.is_under_way.ensures ∙ c.if-not-is_under_way.true))
+
+pub lacking_in-lacking-requires : goal.lacking_in-lacking-requires
+lacking_in-lacking-requires c = few c.args.phases (bounded c.args.phases c.requires).fit (sym c.is_under_way.ensures ∙ c.if-not-is_under_way.false)
+
+pub returns-then-piece-lacking : goal.returns-then-piece-lacking
+returns-then-piece-lacking c = let z = c.lacking_in-lacking.ensures.0 in short_is c.args.phases (bounded c.args.phases c.requires).fit (sym c.is_under_way.ensures ∙ c.if-not-is_under_way.false) c.args.piece.now c.feed-done.result c.with_stream.result c.lacking_in-lacking.ensures.1 (omega arith) c.feed-done.ensures c.with_stream.ensures
+
+pub first_record-first-requires : goal.first_record-first-requires
+first_record-first-requires c = let z = c.lacking_in-lacking.ensures.0 in ((bounded c.args.phases c.requires).fit, ((sym c.is_under_way.ensures ∙ c.if-not-is_under_way.false), (c.lacking_in-lacking.ensures.1, omega arith)))
+
+pub go_through-requires : goal.go_through-requires
+go_through-requires c = let z = c.lacking_in-lacking.ensures.0 in through_needs c.args.phases (bounded c.args.phases c.requires).fit (sym c.is_under_way.ensures ∙ c.if-not-is_under_way.false) c.lacking_in-lacking.ensures.1 c.args.piece.now (omega arith) c.lacking_in-lacking.result c.first_record-first.result z c.first_record-first.ensures
+
+pub returns : goal.returns
+returns c = let z = c.lacking_in-lacking.ensures.0 in both_parts c.args.phases (bounded c.args.phases c.requires).fit (sym c.is_under_way.ensures ∙ c.if-not-is_under_way.false) c.lacking_in-lacking.ensures.1 c.args.piece.now (omega arith) c.lacking_in-lacking.result c.first_record-first.result c.go_through.result z c.first_record-first.ensures c.go_through.ensures
