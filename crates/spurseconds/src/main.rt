@@ -6,7 +6,7 @@ ghost use Rattle.std.specs.Prelude.{◌≡◌, length};
 ghost use Rattle.text.specs.Places.{front, moved_by, put_at};
 ghost use Rattle.spurseconds.specs.Lines.{time_line, seconds_line, Goes, Told};
 
-use libc::{STDERR_FILENO, STDOUT_FILENO};
+use std::env::Env;
 use text::{Number, Place};
 
 // ---- the lines
@@ -53,7 +53,7 @@ fn tell(word: &[u8]) -> Went
     if size == 0 {
         return Went::NoLine;
     }
-    if io::write_all(STDOUT_FILENO, &page[..size]) {
+    if io::write_all(reading::STDOUT, &page[..size]) {
         Went::Printed
     } else {
         Went::CantWrite
@@ -61,13 +61,13 @@ fn tell(word: &[u8]) -> Went
 }
 
 // Prints the lines of the program's words behind its own name, up to the first of which it can't.
-fn tell_all(words: usize) -> Went
+fn tell_all(rt: &impl Env, words: usize) -> Went
     ensures { Told words result }
 {
     let mut word = io::buffer();
     let mut next = 1;
     while next < words {
-        let size = os::arg(next, &mut word);
+        let size = reading::word_given(rt, next, &mut word);
         match tell(&word[..size]) {
             Went::Printed => {
                 next += 1;
@@ -84,11 +84,11 @@ fn tell_all(words: usize) -> Went
 }
 
 fn complain(line: &[u8]) {
-    io::write_all(STDERR_FILENO, line);
+    io::write_all(reading::STDERR, line);
 }
 
-fn main() {
-    match tell_all(os::arg_count()) {
+fn main(rt: HostRuntime) {
+    match tell_all(&rt, reading::words_given(&rt)) {
         Went::Printed => {}
         Went::NoLine => complain(b"spurseconds: a number of cycles is to have 1 to 19 digits\n"),
         Went::CantWrite => complain(b"spurseconds: standard output can't be written\n"),
