@@ -27,11 +27,11 @@ use Rattle.spurjudge.proofs.Reading.{fed-first, judging_pieces}
 
 -- ---- an input that was read
 module _ (limit : ℕ) (lawful : lawful_limit limit ≡ true) where
-  ending_of : (bytes : List ℕ) → finish_of (judging.fed (fresh_stream limit) bytes) ≡ ending_of limit bytes
-  ending_of bytes = ap finish_of (fed-first limit lawful bytes) ∙ (feeding limit lawful).says (bytes ∷ []) ∙ ap (ending_of limit) (append-nil bytes)
+  ending_says : (bytes : List ℕ) → finish_of (judging.fed (fresh_stream limit) bytes) ≡ ending_of limit bytes
+  ending_says bytes = ap finish_of (fed-first limit lawful bytes) ∙ (feeding limit lawful).says (bytes ∷ []) ∙ ap (ending_of limit) (append-nil bytes)
 
-  page_of_lem : (e : Ending) (bytes : List ℕ) → e ≡ ending_of limit bytes → lines_of e ≡ page_of limit bytes
-  page_of_lem e bytes is = ap lines_of is ∙ sym (cond-true _ _ lawful)
+  page_says_of : (e : Ending) (bytes : List ℕ) → e ≡ ending_of limit bytes → lines_of e ≡ page_of limit bytes
+  page_says_of e bytes is = ap lines_of is ∙ sym (cond-true _ _ lawful)
 
   -- what is behind the bytes that were read changes nothing
   behind-same : (bytes rest : List ℕ) → judging.going (judging.fed (fresh_stream limit) bytes) ≡ false → ending_of limit (bytes ++ rest) ≡ ending_of limit bytes
@@ -43,8 +43,8 @@ module _ (limit : ℕ) (lawful : lawful_limit limit ≡ true) where
   judging_tells : Telling judging (fresh_stream limit) (page_of limit) (λ s. lines_of (finish_of s))
   judging_tells =
       record {
-        says = λ bytes. page_of_lem _ bytes (ending_of bytes);
-        rest = λ bytes rest ended. sym (page_of_lem _ (bytes ++ rest) (sym (behind-same bytes rest ended))) ∙ page_of_lem _ bytes refl;
+        says = λ bytes. page_says_of _ bytes (ending_says bytes);
+        rest = λ bytes rest ended. sym (page_says_of _ (bytes ++ rest) (sym (behind-same bytes rest ended))) ∙ page_says_of _ bytes refl;
       }
 
   pub judged-says : (i : Input) (text after : List ℕ) (e : Ending) (q : Place) → length text ≡ 256 → i.failed ≡ false → ReadOut limit i → e ≡ finish_of i.stream

@@ -10,8 +10,8 @@ ghost use Rattle.reading.specs.Reads.{taken_in, after_read};
 ghost use Rattle.spurjudge.specs.Pages.{judging, standing, ReadOut, Prints};
 
 use feeding::Stream;
-use libc::{STDERR_FILENO, STDOUT_FILENO};
 use reading::Said;
+use std::io::Stdin;
 use text::{Number, Place};
 
 // The input so far: whether to read on, and whether the last read failed.
@@ -47,16 +47,16 @@ fn take_in(bytes: &[u8], failed: bool, input: Input) -> Input
 }
 
 // Reads once more.
-fn read_more(buffer: &mut [u8], input: Input) -> Input
+fn read_more(stdin: Stdin, buffer: &mut [u8], input: Input) -> Input
     ensures { (got : ℤ) × (standing result ≡ after_read judging (standing input) (record { got = got; buffer = buffer.new })) }
 {
-    let got = reading::read_once(buffer);
+    let got = reading::read_once(stdin, buffer);
     let size = got.size;
     take_in(&buffer[..size], got.failed, input)
 }
 
 // Reads until it need read no more.
-fn read_all(buffer: &mut [u8], begun: Stream) -> Input
+fn read_all(stdin: Stdin, buffer: &mut [u8], begun: Stream) -> Input
     ensures { (limit : ℕ) → lawful_limit limit ≡ true → begun ≡ fresh_stream limit → ReadOut limit result }
 {
     let mut input = Input {
@@ -67,7 +67,7 @@ fn read_all(buffer: &mut [u8], begun: Stream) -> Input
     let mut turns: u64 = reading::TURNS;
     while turns > 0 {
         if input.more {
-            input = read_more(buffer, input);
+            input = read_more(stdin, buffer, input);
             turns -= 1;
         } else {
             return input;
@@ -93,7 +93,7 @@ fn told(input: Input, text: &mut [u8]) -> Said
 }
 
 // Judges what the reads bring, and makes the text of it.
-fn judge_input(limit: u64, buffer: &mut [u8], text: &mut [u8]) -> Said
+fn judge_input(stdin: Stdin, limit: u64, buffer: &mut [u8], text: &mut [u8]) -> Said
     requires { length text.old ≡ 256 }
     ensures { Prints limit text.new result }
 {
@@ -103,38 +103,38 @@ fn judge_input(limit: u64, buffer: &mut [u8], text: &mut [u8]) -> Said
         return Said::Page(line.at);
     }
     let fresh = begun.stream;
-    let input = read_all(buffer, fresh);
+    let input = read_all(stdin, buffer, fresh);
     told(input, text)
 }
 
 // ---- the program
 
 fn complain(line: &[u8]) {
-    io::write_all(STDERR_FILENO, line);
+    io::write_all(reading::STDERR, line);
 }
 
 fn print(page: &[u8]) {
-    if !io::write_all(STDOUT_FILENO, page) {
+    if !io::write_all(reading::STDOUT, page) {
         complain(b"spurjudge: standard output can't be written\n");
     }
 }
 
-fn judge(limit: u64) {
+fn judge(stdin: Stdin, limit: u64) {
     let mut buffer = io::large_buffer();
     let mut text = [0u8; 256];
-    let said = judge_input(limit, &mut buffer, &mut text);
+    let said = judge_input(stdin, limit, &mut buffer, &mut text);
     match said {
         Said::Page(n) => print(&text[..n]),
         Said::CantRead => complain(b"spurjudge: standard input can't be read\n"),
     }
 }
 
-fn main() {
+fn main(rt: HostRuntime) {
     let mut word = io::buffer();
-    let size = os::arg(1, &mut word);
-    let given = reading::limit_given(os::arg_count(), &word[..size]);
+    let size = reading::word_given(&rt, 1, &mut word);
+    let given = reading::limit_given(reading::words_given(&rt), &word[..size]);
     match given {
-        Number::Is(limit) => judge(limit),
+        Number::Is(limit) => judge(rt.stdin(), limit),
         Number::NotANumber => complain(b"spurjudge: the hold limit is to be one number\n"),
     }
 }
