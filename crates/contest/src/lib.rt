@@ -92,6 +92,7 @@ pub fn settle(set: u16) -> u8
 }
 
 // The winner. Slot 0 alone leaves all lines inactive and still wins: ARB 0 alone doesn't say that nobody contests.
+#[tactic(auto, using(crate::proofs::Winners::nobody_wins, crate::proofs::Winners::top_wins))]
 pub fn contest(set: u16) -> Winner
     ensures { result ≡ winner_of set }
 {
