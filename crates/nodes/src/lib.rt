@@ -20,6 +20,7 @@ fn no_node() -> Node
 }
 
 // The set with the slot in it, where its node says so.
+#[tactic(auto, unfolding(cycle::specs::Nodes::joined_of))]
 fn join_slot(set: u16, slot: usize, on: bool) -> u16
     requires { slot < 16 }
     ensures { result ≡ joined_of set slot on }
