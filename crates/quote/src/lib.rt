@@ -57,6 +57,7 @@ fn worst_of(slot: u8, limit: u8) -> Worst
 }
 
 // The worst wait of a master in this slot: the theorem's own bound. What it promises of every run of the bus is said beside the equation.
+#[tactic(auto, using(crate::proofs::Laws::limit_between, crate::proofs::Laws::bad_limit, crate::proofs::Laws::bad_slot))]
 pub fn worst_wait(slot: u8, limit: u8) -> Quote
     ensures { (quote_answer result ≡ quote_of slot limit) × ((w : Worst) → result ≡ Is w → Quoted slot limit w) }
 {
