@@ -151,13 +151,13 @@ module _ (owed age : ℕ) where
   unfolding watched
   watched_on n a = rw (ne_eqb (age_of age) watchdog a)
 
-  pub struck-more : 1 < owed → struck owed age ≡ taken owed
+  pub struck_more : 1 < owed → struck owed age ≡ taken owed
   unfolding struck
-  struck-more l = rw (lt-ltb 1 owed l)
+  struck_more l = rw (lt-ltb 1 owed l)
 
-  pub struck-one : owed ≤ 1 → struck owed age ≡ watched owed age Extra
+  pub struck_one : owed ≤ 1 → struck owed age ≡ watched owed age Extra
   unfolding struck
-  struck-one l = rw (le-ltb 1 owed l)
+  struck_one l = rw (le-ltb 1 owed l)
 
 module _ (e : Event) (owed age : ℕ) where
   pub going-finish : (s : Status) → e ≡ Finish s → going_on e owed age ≡ finished s owed

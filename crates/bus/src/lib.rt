@@ -112,6 +112,7 @@ fn move_on(b: Bus, reset: bool, e: Event, sets: Sets) -> Moved
 }
 
 // A call over the sets of a table of `len` nodes: refusals 5, 1 and 3 in this order, each of which moves nothing.
+#[tactic(auto, using(crate::proofs::Laws::bounds_turn, crate::proofs::Laws::step_bounds, crate::proofs::Laws::step_length, crate::proofs::Laws::step_words, crate::proofs::Laws::step_moves))]
 fn step_table(b: Bus, reset: bool, e: Event, len: usize, sets: Sets) -> Stepped
     ensures { answer_of result ≡ cond (in_bounds b) (cond (eqb len 16) (step_sets_of b reset e sets) (refused 1 (unmoved b))) (refused 5 (unmoved b)) }
 {

@@ -133,6 +133,7 @@ fn take(owed: u8) -> Progress
 }
 
 // A strobe takes one owed word if more than one is owed, at age 256 too, else it is noted as extra.
+#[tactic(auto, using(crate::proofs::Laws::struck_more, crate::proofs::Laws::struck_one))]
 fn strike(owed: u8, age: u8) -> Progress
     ensures { result ≡ struck owed age }
 {
