@@ -2,17 +2,14 @@
 # Building and starting a proved program; read by ./spur, which has root and die.
 : "${root:?}"
 
-# The toolchain's folder for this machine: its loader and C library run a proved program, and on a machine that is not x86-64 its
-# emulator does, as rt itself runs programs.
+# The toolchain's folder: its loader and C library run a proved program.
 toolchain() {
     command -v rt >/dev/null 2>&1 || die "rt, the Rattle toolchain's command, is not on the PATH"
-    kit=$(dirname "$(dirname "$(rt doc)")")
-    tools=$kit/on/$(uname -m)/toolchain
+    tools=$(dirname "$(rt doc)")/toolchain
 }
 
 # The words in front of a proved program's path.
 runner() {
-    if [ -x "$tools/bin/qemu-x86_64" ]; then printf '%s ' "$tools/bin/qemu-x86_64"; fi
     printf '%s --library-path %s' "$tools/lib/ld-linux-x86-64.so.2" "$tools/lib"
 }
 
@@ -32,32 +29,35 @@ levels() { # CRATE
         END { for (i = 0; i <= level(crate); i++) print substr(row[i], 2) }' "$root/crates.txt"
 }
 
-# Proves a program's crates and makes it. rt tells of a crate when it is proved, and that can take minutes, so it is
-# asked for one level of crates after the other.
+# Proves a program's crates and makes it. rt works on one crate, in its folder, and builds a library for those above it or, when it has proved and
+# linked a program, runs that too: here over an empty input, so that what it says is left in the log. That can take minutes, so what is proved is
+# told level by level.
 build() { # NAME
     log=$root/target/$1.log began=$root/target/$1.began
-    { mkdir -p "$root/target" && true >"$log" && true >"$began"; } 2>/dev/null || die "$root/target can't be written"
+    { mkdir -p "$root/target/bin" && true >"$log" && true >"$began"; } 2>/dev/null || die "$root/target can't be written"
     printf 'spur: building %s, with its proofs\n' "$1" >&2
     levels "$1" | while read -r crates; do
         printf 'spur: proving %s\n' "$crates" >&2
-        # shellcheck disable=SC2086
-        (cd "$root" && rt check $crates) </dev/null 3<&- >>"$log" 2>&1 || exit 1
+        for crate in $crates; do
+            if [ "$crate" = "$1" ]; then verb=run; else verb=lib; fi
+            (cd "$root/crates/$crate" && rt "$verb") </dev/null 3<&- >>"$log" 2>&1 || exit 1
+        done
     done
     # shellcheck disable=SC2181
-    if [ $? -ne 0 ] || [ ! -x "$root/target/bin/$1" ]; then
+    if [ $? -ne 0 ] || ! cp "$root/crates/$1/out/$1" "$root/target/bin/$1" 2>>"$log"; then
         tail -n 20 "$log" >&2
         die "$1 could not be built"
     fi
-    # A program that rt found unchanged keeps its time, and would seem older than the crates again.
+    # As old as the building's begin: what changed since then is newer.
     touch -r "$began" "$root/target/bin/$1" 2>/dev/null
     rm -f "$began"
 }
 
-# Builds a program on first use, proofs and all, and again when a file of the crates has changed since.
+# Builds a program on first use, proofs and all, and again when a file of the crates has changed since; what rt made, in the folders out, is none.
 built() { # NAME
     toolchain
     program=$root/target/bin/$1
-    if [ ! -x "$program" ] || [ -n "$(find "$root/crates" "$root/crates.txt" -type f -newer "$program" | head -n 1)" ]; then
+    if [ ! -x "$program" ] || [ -n "$(find "$root/crates" "$root/crates.txt" -name out -prune -o -type f -newer "$program" -print | head -n 1)" ]; then
         build "$1"
     fi
 }

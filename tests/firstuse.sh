@@ -4,26 +4,27 @@
 # A checkout of five crates with the real command, an rt that proves at once, and a program that says what it is told to.
 made_up() {
     tree=$work/tree kit=$work/kit
-    library=$kit/on/$(uname -m)/toolchain/lib
-    mkdir -p "$tree/crates/low" "$kit/bin" "$library"
+    library=$kit/toolchain/lib
+    mkdir -p "$kit/bin" "$library"
+    for crate in low high beside apart spurjudge spurphases spuraccounts; do mkdir -p "$tree/crates/$crate"; done
     cp -R "$spur" "$root/command" "$tree"
     printf '%s\n' '# NAME: what it stands on' 'low:' 'high: low' 'beside: low' 'apart: low' 'spurjudge: high beside low io' \
         'spurphases: high low io' 'spuraccounts: low io' >"$tree/crates.txt"
     cat >"$kit/bin/rt" <<'RT'
 #!/bin/sh
+crate=$(basename "$PWD")
 case $1 in
-doc) echo "$KIT/docs/first" ;;
-check)
-    shift
-    for crate in "$@"; do
-        if [ "$crate" = "${UNPROVED:-}" ]; then
-            echo "rt: $crate NOT PROVED"
-            exit 1
-        fi
-        echo "rt: $crate proved"
-    done
-    mkdir -p target/bin
-    case $crate in spur*) [ -f "target/bin/$crate" ] || cp "$KIT/program" "target/bin/$crate" ;; esac
+doc) echo "$KIT/first" ;;
+lib | run)
+    if [ "$crate" = "${UNPROVED:-}" ]; then
+        echo "rt: $crate NOT PROVED"
+        exit 1
+    fi
+    echo "rt: $crate proved"
+    if [ "$1" = run ]; then
+        mkdir -p out
+        cp "$KIT/program" "out/$crate"
+    fi
     ;;
 esac
 RT
