@@ -4,11 +4,11 @@ use Rattle.accounts.proofs.Watched.{shown-bytes}
 use Rattle.accounts.proofs.charge.shown_in.Goals as goal
 
 pub overflow_mul-result : goal.overflow_mul-result
-overflow_mul-result c = omega (arith, (c.shared_slice_known-1.given 4).fits)
+overflow_mul-result c = omega (arith, (c.type_inv.part 4).fits)
 
 pub overflow_add-result : goal.overflow_add-result
-overflow_add-result c = omega (arith, (c.shared_slice_known-1.given 4).fits)
+overflow_add-result c = omega (arith, (c.type_inv.part 4).fits)
 
 pub returns : goal.returns
-returns c = let given = c.shared_slice_known-1.given in
+returns c = let given = c.type_inv.part in
     shown-bytes c.args.part.now c.requires (λ k. (given k).fits) c.stamp_of-stamp.result c.stamp_of-stamp.ensures

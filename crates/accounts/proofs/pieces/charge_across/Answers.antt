@@ -1,16 +1,10 @@
 -- `accounts::pieces::charge_across` meets its contract. Assumes nothing.
-use Rattle.std.proofs.Common.{◌≡◌, ℕ, ◌-◌, ◌≤◌, List, ◌++◌, length, take, sym, ap, ◌∙◌, subst, arith, length-take-le, rules}
+use Rattle.std.proofs.Common.{◌≡◌, ℕ, ◌-◌, ◌≤◌, List, length, take, sym, ap, ◌∙◌, subst, arith, length-take-le, rules}
 use Rattle.record.specs.Layout.{record_in}
 use Rattle.rules.specs.Run.{records_in}
-use Rattle.usage.specs.Charge.{account_of}
 use Rattle.accounts.specs.Watch.{watch_of, charged_by, Roomy}
 use Rattle.accounts.proofs.Crossing.{lacks, fills, roomy_front, roomy_rest, across}
 use Rattle.accounts.proofs.pieces.charge_across.Goals as goal
-
-pub returns-then-n-eq0 : goal.returns-then-n-eq0
-returns-then-n-eq0 c = let a = c.args in
-    let none : 0 ≡ a.n = omega arith in
-    ap (λ (k : ℕ). account_of a.judge a.entries (records_in k (take a.held a.torn ++ a.piece.now))) none
 
 pub slice_bounds-filled-end : goal.slice_bounds-filled-end
 slice_bounds-filled-end c = let a = c.args in
@@ -64,7 +58,7 @@ returns c = let a = c.args in
     let part = c.requires.0 in
     let h = c.requires.1 in
     let sixteen : length a.torn ≡ 16 = search (rules, c.well_formed.1.1.0) in
-    let some : 1 ≤ a.n = omega (arith, c.if-n-eq0.false) in
+    let some : 1 ≤ a.n = omega arith in
     let long : length a.entries ≡ 16 = search (rules, c.well_formed.1.0) in
     let put = c.filled-front.ensures in
     across a.torn a.piece.now a.held a.n a.judge a.entries sixteen part h some c.watch_before-watch.result (c.watch_before-watch.ensures ∙ ap (λ (x : List ℕ). watch_of a.judge (record_in (take 16 x)).stamp) put) long c.charge_on-first.result (c.charge_on-first.ensures ∙ ap (λ (x : List ℕ). charged_by c.watch_before-watch.result a.entries (records_in 1 x)) put) (omega arith) c.charge_on-end.result c.charge_on-end.ensures
