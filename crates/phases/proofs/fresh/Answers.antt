@@ -1,4 +1,5 @@
 -- `phases::fresh` meets its contract. Assumes nothing.
+use Rattle.std.proofs.Common.{◌≡◌, arith}
 use Rattle.phases.proofs.Calls.{some-few, refused_9, refused_2, refused_3, begun_is}
 use Rattle.phases.proofs.fresh.Goals as goal
 
@@ -15,4 +16,6 @@ pub returns-then-begun-ne0 : goal.returns-then-begun-ne0
 returns-then-begun-ne0 c = refused_3 c.args.limit c.args.marks c.fresh-none.result c.fresh-none.ensures c.some_marks.result c.some_marks.ensures c.if-not-some_marks.false c.all_named.result c.all_named.ensures c.if-not-all_named.false c.fresh-begun.result c.fresh-begun.ensures c.refused-then-begun-ne0.result c.if-begun-ne0.true c.refused-then-begun-ne0.ensures
 
 pub returns : goal.returns
-returns c = begun_is c.args.limit c.args.marks c.fresh-none.result c.fresh-none.ensures c.some_marks.result c.some_marks.ensures c.if-not-some_marks.false c.all_named.result c.all_named.ensures c.if-not-all_named.false c.fresh-begun.result c.fresh-begun.ensures c.fresh_search.result c.if-begun-ne0.false c.fresh_search.ensures
+returns c =
+    let accepted : c.fresh-begun.result.number ≡ 0 = omega arith in
+    begun_is c.args.limit c.args.marks c.fresh-none.result c.fresh-none.ensures c.some_marks.result c.some_marks.ensures c.if-not-some_marks.false c.all_named.result c.all_named.ensures c.if-not-all_named.false c.fresh-begun.result c.fresh-begun.ensures c.fresh_search.result accepted c.fresh_search.ensures
