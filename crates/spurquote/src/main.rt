@@ -9,7 +9,6 @@ ghost use Rattle.text.specs.Places.{front};
 ghost use Rattle.spurquote.specs.Words.{both_of, asked_of};
 ghost use Rattle.spurquote.specs.Pages.{worst_line, quote_line, Prints};
 
-use libc::{STDERR_FILENO, STDOUT_FILENO};
 use quote::{Quote, Worst};
 use text::{Number, Place};
 
@@ -94,11 +93,11 @@ fn tell(words: usize, slot: &[u8], limit: &[u8], page: &mut [u8]) -> Said
 // ---- the program
 
 fn complain(line: &[u8]) {
-    io::write_all(STDERR_FILENO, line);
+    io::write_all(reading::STDERR, line);
 }
 
 fn print(page: &[u8]) {
-    if !io::write_all(STDOUT_FILENO, page) {
+    if !io::write_all(reading::STDOUT, page) {
         complain(b"spurquote: standard output can't be written\n");
     }
 }
@@ -114,10 +113,14 @@ fn say(words: usize, slot: &[u8], limit: &[u8]) {
     }
 }
 
-fn main() {
+fn main(rt: HostRuntime) {
     let mut slot = io::buffer();
     let mut limit = io::buffer();
-    let slot_size = os::arg(1, &mut slot);
-    let limit_size = os::arg(2, &mut limit);
-    say(os::arg_count(), &slot[..slot_size], &limit[..limit_size]);
+    let slot_size = reading::word_given(&rt, 1, &mut slot);
+    let limit_size = reading::word_given(&rt, 2, &mut limit);
+    say(
+        reading::words_given(&rt),
+        &slot[..slot_size],
+        &limit[..limit_size],
+    );
 }
