@@ -5,7 +5,7 @@
 ghost use Rattle.std.specs.Prelude.{◌≡◌, ◌-◌, ◌≤◌, ◌<◌, length};
 ghost use Rattle.spurfleet.specs.Words.{is_figure, with_figure, Given, Prints};
 
-use libc::{STDERR_FILENO, STDOUT_FILENO};
+use std::env::Env;
 use text::{Number, Place};
 
 // As many words are taken, and no more.
@@ -34,7 +34,7 @@ fn keep(numbers: &mut [u64], at: usize, figure: Number) -> bool
 }
 
 // Takes in the words behind the program's name, so many, and answers whether each of them is a figure.
-fn take_words(count: usize, numbers: &mut [u64]) -> bool
+fn take_words(rt: &impl Env, count: usize, numbers: &mut [u64]) -> bool
     requires { count ≤ length numbers.old }
     ensures { Given count numbers.new result }
 {
@@ -42,7 +42,7 @@ fn take_words(count: usize, numbers: &mut [u64]) -> bool
     let mut good = true;
     let mut next = 0;
     while next < count {
-        let size = os::arg(next + 1, &mut word);
+        let size = reading::word_given(rt, next + 1, &mut word);
         let figure = figures::figure_in(&word[..size]);
         good = keep(numbers, next, figure) & good;
         next += 1;
@@ -51,7 +51,7 @@ fn take_words(count: usize, numbers: &mut [u64]) -> bool
 }
 
 // The line of the numbers that so many words say.
-fn told(count: usize, line: &mut [u8]) -> Said
+fn told(rt: &impl Env, count: usize, line: &mut [u8]) -> Said
     requires { length line.old ≡ 192 }
     ensures { Prints count line.new result }
 {
@@ -59,7 +59,7 @@ fn told(count: usize, line: &mut [u8]) -> Said
         return Said::TooMany;
     }
     let mut numbers = [0u64; MOST];
-    if take_words(count, &mut numbers) {
+    if take_words(rt, count, &mut numbers) {
         let summary = fleet::summarize(&numbers[..count]);
         let end = fleetlines::put_summary(line, Place::front(), summary);
         return Said::Line(end.at);
@@ -68,11 +68,11 @@ fn told(count: usize, line: &mut [u8]) -> Said
 }
 
 fn complain(line: &[u8]) {
-    io::write_all(STDERR_FILENO, line);
+    io::write_all(reading::STDERR, line);
 }
 
 fn print(page: &[u8]) {
-    if !io::write_all(STDOUT_FILENO, page) {
+    if !io::write_all(reading::STDOUT, page) {
         complain(b"spurfleet: standard output can't be written\n");
     }
 }
@@ -84,9 +84,9 @@ fn behind(words: usize) -> usize
     if words == 0 { 0 } else { words - 1 }
 }
 
-fn main() {
+fn main(rt: HostRuntime) {
     let mut line = [0u8; 192];
-    let said = told(behind(os::arg_count()), &mut line);
+    let said = told(&rt, behind(reading::words_given(&rt)), &mut line);
     match said {
         Said::Line(n) => print(&line[..n]),
         Said::NoFigure => complain(b"spurfleet: each word is to be a number of 1 to 19 digits\n"),
