@@ -25,7 +25,7 @@ use Rattle.spurshow.specs.declared.Asked.{Asked}
 use Rattle.spurshow.specs.declared.Ending.{Ending}
 use Rattle.spurshow.specs.declared.Ending.TheVariants.{Fine, NoRecord, TooMany, Torn}
 use Rattle.spurshow.specs.Shown.{goes, row_of, head_of, dump_of, text_of, shown, walked_over, records_of, ending_of, last_of}
-use Rattle.spurshow.specs.Pages.{row_at, before, dump_at, text_at_lem, each, behind_last, last_at, page_in, ending_in, printed_of, WholeButLast}
+use Rattle.spurshow.specs.Pages.{row_at, before, dump_at, text_at, each, behind_last, last_at, page_in, ending_in, printed_of, WholeButLast}
 use Rattle.spurshow.proofs.Showing.{going, text_none, text_some, shown_over, walked_over_lem, shown_pieces, walked_pieces}
 
 -- what is shown of a walk's next record is what is said of the recording
@@ -53,8 +53,8 @@ dump_at_lem a r k =
     ∙ ap (λ (s : ℕ). dumped w.place s (before r.lines blank k) (gap r.lines k) (cycle r.lines k)) (stood_at r.lines k)
     ∙ ap (λ (i : ℕ). dumped i (before (cycle r.lines) 0 k) (before r.lines blank k) (gap r.lines k) (cycle r.lines k)) (place_at r.lines k)
 
-text_at_lem : (a : Asked) (r : Recording) (k : ℕ) → cond a.dump (dump_of a (walk_at r.lines k) (taken_at r k)) (row_of (walk_at r.lines k) (taken_at r k)) ≡ text_at_lem a r k
-text_at_lem a r k =
+text_at_is : (a : Asked) (r : Recording) (k : ℕ) → cond a.dump (dump_of a (walk_at r.lines k) (taken_at r k)) (row_of (walk_at r.lines k) (taken_at r k)) ≡ text_at a r k
+text_at_is a r k =
     ap (λ (l : List ℕ). cond a.dump l (row_of (walk_at r.lines k) (taken_at r k))) (dump_at_lem a r k) ∙ ap (cond a.dump (dump_at r a.from k)) (row_at_lem r k)
 
 module _ (a : Asked) (r : Recording) where
@@ -91,8 +91,8 @@ module _ (a : Asked) (r : Recording) where
 
   -- from FROM on
   shown_inside : (k : ℕ) (ts : List Taken) → Listed r k ts → a.from ≤ k → k ≤ a.to + 1 → k ≤ most_records
-      → shown a (walk_at r.lines k) ts ≡ each (text_at_lem a r) k (behind_last a (k + length ts) - k)
-  shown_inside k [] l from to most = ap (each (text_at_lem a r) k) (let z : 0 ≡ behind_last a (k + 0) - k = omega arith in z)
+      → shown a (walk_at r.lines k) ts ≡ each (text_at a r) k (behind_last a (k + length ts) - k)
+  shown_inside k [] l from to most = ap (each (text_at a r) k) (let z : 0 ≡ behind_last a (k + 0) - k = omega arith in z)
   shown_inside k (t ∷ ts) l from to most =
       let w = walk_at r.lines k in
       by-test (goes a w)
@@ -100,21 +100,21 @@ module _ (a : Asked) (r : Recording) where
       let p = place_at r.lines k in
       let e : suc (behind_last a (suc k + length ts) - suc k) ≡ behind_last a (k + suc (length ts)) - k = omega (arith, h.0, h.1) in
       cond-true _ _ g
-      ∙ ap (λ (l : List ℕ). l ++ shown a (onward w t.lines) ts) (ap (text_of a w) (sym l.0) ∙ text_some a w (taken_at r k) (omega arith) ∙ text_at_lem a r k)
-      ∙ ap (λ (l : List ℕ). text_at_lem a r k ++ l) (ap (λ (x : Walk). shown a x ts) (next_at k t l.0) ∙ shown_inside (suc k) ts l.1 (omega arith) (omega (arith, h.0)) (omega (arith, h.1)))
-      ∙ ap (each (text_at_lem a r) k) e)
-      (λ g. let b = off_at k (length (t ∷ ts)) g to most in cond-false _ _ g ∙ ap (each (text_at_lem a r) k) (let z : 0 ≡ behind_last a (k + length (t ∷ ts)) - k = omega arith in z))
+      ∙ ap (λ (l : List ℕ). l ++ shown a (onward w t.lines) ts) (ap (text_of a w) (sym l.0) ∙ text_some a w (taken_at r k) (omega arith) ∙ text_at_is a r k)
+      ∙ ap (λ (l : List ℕ). text_at a r k ++ l) (ap (λ (x : Walk). shown a x ts) (next_at k t l.0) ∙ shown_inside (suc k) ts l.1 (omega arith) (omega (arith, h.0)) (omega (arith, h.1)))
+      ∙ ap (each (text_at a r) k) e)
+      (λ g. let b = off_at k (length (t ∷ ts)) g to most in cond-false _ _ g ∙ ap (each (text_at a r) k) (let z : 0 ≡ behind_last a (k + length (t ∷ ts)) - k = omega arith in z))
 
   -- before it
   shown-before : (k : ℕ) (ts : List Taken) → Listed r k ts → k ≤ a.from → k ≤ a.to + 1 → k ≤ most_records
-      → shown a (walk_at r.lines k) ts ≡ each (text_at_lem a r) a.from (behind_last a (k + length ts) - a.from)
-  shown-before k [] l from to most = ap (each (text_at_lem a r) a.from) (let z : 0 ≡ behind_last a (k + 0) - a.from = omega arith in z)
+      → shown a (walk_at r.lines k) ts ≡ each (text_at a r) a.from (behind_last a (k + length ts) - a.from)
+  shown-before k [] l from to most = ap (each (text_at a r) a.from) (let z : 0 ≡ behind_last a (k + 0) - a.from = omega arith in z)
   shown-before k (t ∷ ts) l from to most =
       let w = walk_at r.lines k in
       by-test (leb a.from k)
       (λ here. let z = leb-true a.from k here in
       let same : k ≡ a.from = omega arith in
-      subst (λ (x : ℕ). shown a w (t ∷ ts) ≡ each (text_at_lem a r) x (behind_last a (k + length (t ∷ ts)) - x)) same (shown_inside k (t ∷ ts) l z to most))
+      subst (λ (x : ℕ). shown a w (t ∷ ts) ≡ each (text_at a r) x (behind_last a (k + length (t ∷ ts)) - x)) same (shown_inside k (t ∷ ts) l z to most))
       (λ later. let z = leb-false a.from k later in
       let p = place_at r.lines k in
       by-test (goes a w)
@@ -124,16 +124,16 @@ module _ (a : Asked) (r : Recording) where
       ∙ ap (λ (l : List ℕ). l ++ shown a (onward w t.lines) ts) (text_none a w t (omega arith))
       ∙ ap (λ (x : Walk). shown a x ts) (next_at k t l.0)
       ∙ shown-before (suc k) ts l.1 z (omega (arith, h.0)) (omega (arith, h.1))
-      ∙ ap (each (text_at_lem a r) a.from) e)
-      (λ g. let b = off_at k (length (t ∷ ts)) g to most in cond-false _ _ g ∙ ap (each (text_at_lem a r) a.from) (let y : 0 ≡ behind_last a (k + length (t ∷ ts)) - a.from = omega arith in y)))
+      ∙ ap (each (text_at a r) a.from) e)
+      (λ g. let b = off_at k (length (t ∷ ts)) g to most in cond-false _ _ g ∙ ap (each (text_at a r) a.from) (let y : 0 ≡ behind_last a (k + length (t ∷ ts)) - a.from = omega arith in y)))
 
 -- shown from the start on
-shown-all : (a : Asked) (bytes : List ℕ) → shown a fresh_walk (records_of bytes) ≡ each (text_at_lem a (recording_in bytes)) a.from (behind_last a (length bytes / 16) - a.from)
+shown-all : (a : Asked) (bytes : List ℕ) → shown a fresh_walk (records_of bytes) ≡ each (text_at a (recording_in bytes)) a.from (behind_last a (length bytes / 16) - a.from)
 shown-all a bytes =
     let n : ℕ = length bytes / 16 in
     let count : 0 + length (records_of bytes) ≡ n = let z = length-records n bytes in omega arith in
     shown-before a (recording_in bytes) 0 (records_of bytes) (listed bytes 0 n) (omega arith) (omega arith) (omega arith)
-    ∙ ap (λ (k : ℕ). each (text_at_lem a (recording_in bytes)) a.from (behind_last a k - a.from)) count
+    ∙ ap (λ (k : ℕ). each (text_at a (recording_in bytes)) a.from (behind_last a k - a.from)) count
 
 -- and the walk comes to the last record that counts
 pub walked_all : (a : Asked) (bytes : List ℕ) → walked_over a fresh_walk (records_of bytes) ≡ walk_at (recording_in bytes).lines (behind_last a (length bytes / 16))
@@ -150,7 +150,7 @@ page_all a bytes =
     let r : Recording = recording_in bytes in
     let b : ℕ = behind_last a (length bytes / 16) in
     ap (λ (l : List ℕ). l ++ last_of a (walked_over a fresh_walk (records_of bytes))) (shown-all a bytes)
-    ∙ ap (λ (l : List ℕ). each (text_at_lem a r) a.from (b - a.from) ++ l)
+    ∙ ap (λ (l : List ℕ). each (text_at a r) a.from (b - a.from) ++ l)
     (ap (last_of a) (walked_all a bytes)
     ∙ ap (λ (n : ℕ). cond (a.dump && ltb a.from n) (end_text (walk_at r.lines b).cycle) []) (place_at r.lines b)
     ∙ ap (λ (c : ℕ). cond (a.dump && ltb a.from b) (end_text c) []) (stood_at r.lines b))

@@ -9,9 +9,10 @@ ghost use Rattle.rules.specs.Run.{taken_in};
 ghost use Rattle.walk.specs.Walks.{walk_bounds, onward};
 ghost use Rattle.spurshow.specs.Shown.{goes, head_of, text_of, shown, walked_over, records_of, piece_of, ending_of, last_of, range_of, request_of};
 
-use libc::{STDERR_FILENO, STDIN_FILENO, STDOUT_FILENO};
 use record::Record;
 use rules::Judge;
+use std::env::Env;
+use std::io::Stdin;
 use text::{Number, Place};
 use walk::Walk;
 
@@ -212,20 +213,20 @@ fn requested(rows: bool, vcd: bool, from: Number, to: Number) -> Request
 }
 
 // Word i of the program as a number.
-fn number_given(i: usize) -> Number {
+fn number_given(rt: &impl Env, i: usize) -> Number {
     let mut word = io::buffer();
-    let size = os::arg(i, &mut word);
+    let size = reading::word_given(rt, i, &mut word);
     figures::figure_in(&word[..size])
 }
 
-fn request_given() -> Request {
+fn request_given(rt: &impl Env) -> Request {
     let mut word = io::buffer();
-    let size = os::arg(1, &mut word);
+    let size = reading::word_given(rt, 1, &mut word);
     let rows = check::same(&word[..size], b"rows");
     let vcd = check::same(&word[..size], b"vcd");
-    let from = number_given(2);
-    let to = number_given(3);
-    let three = os::arg_count() == 4;
+    let from = number_given(rt, 2);
+    let to = number_given(rt, 3);
+    let three = reading::words_given(rt) == 4;
     requested(rows & three, vcd & three, from, to)
 }
 
@@ -258,23 +259,23 @@ fn read_piece(buffer: &mut [u8], most: usize) -> usize
     requires { most ≤ length buffer.old }
     ensures { IsPrefixLen result buffer.new }
 {
-    io::read_full(STDIN_FILENO, &mut buffer[..most])
+    io::read_full(reading::STDIN, &mut buffer[..most])
 }
 
 fn complain(line: &[u8]) {
-    io::write_all(STDERR_FILENO, line);
+    io::write_all(reading::STDERR, line);
 }
 
 fn print(page: &[u8]) {
-    if !io::write_all(STDOUT_FILENO, page) {
+    if !io::write_all(reading::STDOUT, page) {
         complain(b"spurshow: standard output can't be written\n");
     }
 }
 
 // At the end of the input, whether the last read came to it: where it failed instead, the next fails too.
-fn checked(end: Ending, short: bool, buffer: &mut [u8]) -> Ending {
+fn checked(stdin: Stdin, end: Ending, short: bool, buffer: &mut [u8]) -> Ending {
     if short {
-        let again = reading::read_once(buffer);
+        let again = reading::read_once(stdin, buffer);
         if again.failed {
             return Ending::CantRead;
         }
@@ -283,7 +284,7 @@ fn checked(end: Ending, short: bool, buffer: &mut [u8]) -> Ending {
 }
 
 // Shows the records of standard input piece by piece.
-fn show(asked: Asked) -> Ending {
+fn show(stdin: Stdin, asked: Asked) -> Ending {
     let mut piece = [0u8; PIECE];
     let mut text = io::large_buffer();
     let mut walk = Walk::fresh();
@@ -304,6 +305,7 @@ fn show(asked: Asked) -> Ending {
             let m = last.at;
             print(&text[..m]);
             return checked(
+                stdin,
                 end_found(asked, earlier, size, walk.place),
                 short & !over,
                 &mut piece,
@@ -324,9 +326,9 @@ fn complain_of(end: Ending) {
     }
 }
 
-fn main() {
-    match request_given() {
-        Request::Show(asked) => complain_of(show(asked)),
+fn main(rt: HostRuntime) {
+    match request_given(&rt) {
+        Request::Show(asked) => complain_of(show(rt.stdin(), asked)),
         Request::Unclear => complain(
             b"spurshow: it takes rows or vcd, and the places of the first and the last record as numbers\n",
         ),
