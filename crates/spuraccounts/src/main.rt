@@ -9,8 +9,8 @@ ghost use Rattle.usage.specs.Pieces.{fresh_ledger};
 ghost use Rattle.reading.specs.Reads.{taken_in, after_read};
 ghost use Rattle.spuraccounts.specs.Pages.{accounting, standing, ReadOut, Prints};
 
-use libc::{STDERR_FILENO, STDOUT_FILENO};
 use reading::Said;
+use std::io::Stdin;
 use text::{Number, Place};
 use usage::Ledger;
 
@@ -48,16 +48,16 @@ fn take_in(bytes: &[u8], failed: bool, input: Input) -> Input
 }
 
 // Reads once more.
-fn read_more(buffer: &mut [u8], input: Input) -> Input
+fn read_more(stdin: Stdin, buffer: &mut [u8], input: Input) -> Input
     ensures { (got : ℤ) × (standing result ≡ after_read accounting (standing input) (record { got = got; buffer = buffer.new })) }
 {
-    let got = reading::read_once(buffer);
+    let got = reading::read_once(stdin, buffer);
     let size = got.size;
     take_in(&buffer[..size], got.failed, input)
 }
 
 // Reads until it need read no more.
-fn read_all(buffer: &mut [u8], begun: Ledger) -> Input
+fn read_all(stdin: Stdin, buffer: &mut [u8], begun: Ledger) -> Input
     ensures { (limit : ℕ) → lawful_limit limit ≡ true → begun ≡ fresh_ledger limit → ReadOut limit result }
 {
     let mut input = Input {
@@ -68,7 +68,7 @@ fn read_all(buffer: &mut [u8], begun: Ledger) -> Input
     let mut turns: u64 = reading::TURNS;
     while turns > 0 {
         if input.more {
-            input = read_more(buffer, input);
+            input = read_more(stdin, buffer, input);
             turns -= 1;
         } else {
             return input;
@@ -94,7 +94,7 @@ fn told(input: Input, text: &mut [u8]) -> Said
 }
 
 // Judges what the reads bring, with an account, and makes the text of it.
-fn account_input(limit: u64, buffer: &mut [u8], text: &mut [u8]) -> Said
+fn account_input(stdin: Stdin, limit: u64, buffer: &mut [u8], text: &mut [u8]) -> Said
     requires { length text.old ≡ 1536 }
     ensures { Prints limit text.new result }
 {
@@ -104,38 +104,38 @@ fn account_input(limit: u64, buffer: &mut [u8], text: &mut [u8]) -> Said
         return Said::Page(line.at);
     }
     let fresh = begun.ledger;
-    let input = read_all(buffer, fresh);
+    let input = read_all(stdin, buffer, fresh);
     told(input, text)
 }
 
 // ---- the program
 
 fn complain(line: &[u8]) {
-    io::write_all(STDERR_FILENO, line);
+    io::write_all(reading::STDERR, line);
 }
 
 fn print(page: &[u8]) {
-    if !io::write_all(STDOUT_FILENO, page) {
+    if !io::write_all(reading::STDOUT, page) {
         complain(b"spuraccounts: standard output can't be written\n");
     }
 }
 
-fn account(limit: u64) {
+fn account(stdin: Stdin, limit: u64) {
     let mut buffer = io::large_buffer();
     let mut text = [0u8; 1536];
-    let said = account_input(limit, &mut buffer, &mut text);
+    let said = account_input(stdin, limit, &mut buffer, &mut text);
     match said {
         Said::Page(n) => print(&text[..n]),
         Said::CantRead => complain(b"spuraccounts: standard input can't be read\n"),
     }
 }
 
-fn main() {
+fn main(rt: HostRuntime) {
     let mut word = io::buffer();
-    let size = os::arg(1, &mut word);
-    let given = reading::limit_given(os::arg_count(), &word[..size]);
+    let size = reading::word_given(&rt, 1, &mut word);
+    let given = reading::limit_given(reading::words_given(&rt), &word[..size]);
     match given {
-        Number::Is(limit) => account(limit),
+        Number::Is(limit) => account(rt.stdin(), limit),
         Number::NotANumber => complain(b"spuraccounts: the hold limit is to be one number\n"),
     }
 }

@@ -1,0 +1,12 @@
+-- `spuraccounts::account_input` meets its contract. Assumes nothing.
+use Rattle.spuraccounts.proofs.Printing.{refused_says, begun_lawful}
+use Rattle.spuraccounts.proofs.account_input.Goals as goal
+
+pub returns-then-begun-ne0 : goal.returns-then-begun-ne0
+returns-then-begun-ne0 c = let e = rw c.front.ensures at c.put_refused-line.ensures in
+    refused_says c.args.limit c.narrowed.result c.fresh-begun.result c.narrowed.ensures c.fresh-begun.ensures c.args.text.now c.put_refused-line.new.buffer c.put_refused-line.result c.requires c.if-begun-ne0.true e.0 e.1
+
+pub returns : goal.returns
+returns c = let a = c.args in
+    let begun = begun_lawful a.limit c.narrowed.result c.fresh-begun.result c.narrowed.ensures c.fresh-begun.ensures c.if-begun-ne0.false in
+    c.told.ensures a.limit begun.0 (c.read_all-input.ensures a.limit begun.0 begun.1)
