@@ -10,9 +10,10 @@ ghost use Rattle.reading.specs.Reads.{taken_in, after_read};
 ghost use Rattle.spurphases.specs.Words.{slash_in, mark_of, mark_in, with_mark, named_as, Given};
 ghost use Rattle.spurphases.specs.Pages.{searching, standing, ReadOut, Prints};
 
-use libc::{STDERR_FILENO, STDOUT_FILENO};
 use marks::{Marks, Phases};
 use reading::Said;
+use std::env::Env;
+use std::io::Stdin;
 use text::{Number, Place};
 
 // ---- the words
@@ -115,7 +116,7 @@ fn name(named: Named, word: &[u8]) -> Named
 }
 
 // The marks that the program's words name, behind its own name and the hold limit.
-fn marks_given(words: usize) -> Named
+fn marks_given(rt: &impl Env, words: usize) -> Named
     ensures { Given words result }
 {
     let mut word = io::buffer();
@@ -131,7 +132,7 @@ fn marks_given(words: usize) -> Named
     };
     let mut next = 2;
     while next < words {
-        let size = os::arg(next, &mut word);
+        let size = reading::word_given(rt, next, &mut word);
         named = name(named, &word[..size]);
         next += 1;
     }
@@ -170,16 +171,16 @@ fn take_in(bytes: &[u8], failed: bool, input: Input) -> Input
 }
 
 // Reads once more.
-fn read_more(buffer: &mut [u8], input: Input) -> Input
+fn read_more(stdin: Stdin, buffer: &mut [u8], input: Input) -> Input
     ensures { (got : ℤ) × (standing result ≡ after_read searching (standing input) (record { got = got; buffer = buffer.new })) }
 {
-    let got = reading::read_once(buffer);
+    let got = reading::read_once(stdin, buffer);
     let size = got.size;
     take_in(&buffer[..size], got.failed, input)
 }
 
 // Reads until it need read no more.
-fn read_all(buffer: &mut [u8], begun: Phases) -> Input
+fn read_all(stdin: Stdin, buffer: &mut [u8], begun: Phases) -> Input
     ensures { (limit : ℕ) (marks : Marks) → begin_refusal limit marks ≡ 0 → begun ≡ fresh_phases limit marks → ReadOut limit marks result }
 {
     let mut input = Input {
@@ -190,7 +191,7 @@ fn read_all(buffer: &mut [u8], begun: Phases) -> Input
     let mut turns: u64 = reading::TURNS;
     while turns > 0 {
         if input.more {
-            input = read_more(buffer, input);
+            input = read_more(stdin, buffer, input);
             turns -= 1;
         } else {
             return input;
@@ -216,7 +217,7 @@ fn told(input: Input, text: &mut [u8]) -> Said
 }
 
 // Looks for the marks in what the reads bring, and makes the text of the report.
-fn report_input(limit: u64, marks: Marks, buffer: &mut [u8], text: &mut [u8]) -> Said
+fn report_input(stdin: Stdin, limit: u64, marks: Marks, buffer: &mut [u8], text: &mut [u8]) -> Said
     requires { length text.old ≡ 4096 }
     ensures { Prints limit marks text.new result }
 {
@@ -226,48 +227,48 @@ fn report_input(limit: u64, marks: Marks, buffer: &mut [u8], text: &mut [u8]) ->
         return Said::Page(line.at);
     }
     let fresh = begun.phases;
-    let input = read_all(buffer, fresh);
+    let input = read_all(stdin, buffer, fresh);
     told(input, text)
 }
 
 // ---- the program
 
 fn complain(line: &[u8]) {
-    io::write_all(STDERR_FILENO, line);
+    io::write_all(reading::STDERR, line);
 }
 
 fn print(page: &[u8]) {
-    if !io::write_all(STDOUT_FILENO, page) {
+    if !io::write_all(reading::STDOUT, page) {
         complain(b"spurphases: standard output can't be written\n");
     }
 }
 
-fn report(limit: u64, marks: Marks) {
+fn report(stdin: Stdin, limit: u64, marks: Marks) {
     let mut buffer = io::large_buffer();
     let mut text = [0u8; 4096];
-    let said = report_input(limit, marks, &mut buffer, &mut text);
+    let said = report_input(stdin, limit, marks, &mut buffer, &mut text);
     match said {
         Said::Page(n) => print(&text[..n]),
         Said::CantRead => complain(b"spurphases: standard input can't be read\n"),
     }
 }
 
-fn look(limit: u64, words: usize) {
-    let named = marks_given(words);
+fn look(rt: HostRuntime, limit: u64, words: usize) {
+    let named = marks_given(&rt, words);
     if named.good {
         let marks = named.marks;
-        report(limit, marks);
+        report(rt.stdin(), limit, marks);
     } else {
         complain(b"spurphases: a mark is to be a slot and an interrupt number, as 3/4\n");
     }
 }
 
-fn main() {
+fn main(rt: HostRuntime) {
     let mut word = io::buffer();
-    let size = os::arg(1, &mut word);
+    let size = reading::word_given(&rt, 1, &mut word);
     let given = text::number_in(&word[..size]);
     match given {
-        Number::Is(limit) => look(limit, os::arg_count()),
+        Number::Is(limit) => look(rt, limit, reading::words_given(&rt)),
         Number::NotANumber => complain(b"spurphases: the hold limit is to be a number\n"),
     }
 }
