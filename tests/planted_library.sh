@@ -41,8 +41,7 @@ for crate in "$here"/../crates/*/; do
 done
 # rt try gives no pipe: here the programs take 1,000 bytes at most in a read, which tears records as
 # a pipe does.
-edit reading/src/lib.rt 'libc::read(STDIN_FILENO, buffer)' \
-    'libc::read(STDIN_FILENO, &mut buffer[..1000])'
+edit reading/src/lib.rt 'input.read(buffer)' 'input.read(&mut buffer[..1000])'
 
 # A short list, which the interpreter runs to its end, and long ones, in which it stops after ten
 # million steps, first two with 25 damaged recordings for each rule; recordings that conform, with
@@ -129,43 +128,42 @@ if [ -d "$here/../crates/spuraccounts" ]; then
     used <"$here/../samples/boot.rec"
 fi
 
-# Runs the program over its inputs: 0 where it writes what the model does, 1 at the first where it
-# doesn't, and then $where says where. All ways to run it have a say, but for an interpreter that
-# ran out of steps.
+# Runs the program over its inputs, all in one `rt try`: 0 where it writes what the model does, 1 where it doesn't, and then $where
+# says at which first. A run that ended with no answer, as the interpreter's that ran out of steps, has no say.
 try() { # program
+    cases=$out/cases
+    rm -rf "$cases"
+    mkdir "$cases" || exit 2
     for input in "$inputs/$1".*; do
-        words=$inputs/words.${input##*.}
+        k=${input##*.}
+        words=$inputs/words.$k
+        cp "$input" "$cases/$k" || exit 2
         case $1 in
         spurcalls) "$out/modelcalls" ;;
         spurjudge) "$out/modeljudge" ;;
         spuraccounts)
-            words=$inputs/limit.${input##*.}
-            rm -f "$copy/crates/$1/args"
-            if [ -f "$words" ]; then cp "$words" "$copy/crates/$1/args" || exit 2; fi
+            words=$inputs/limit.$k
+            if [ -f "$words" ]; then cp "$words" "$cases/$k.args" || exit 2; fi
             "$out/modelaccounts" $(cat "$words" 2>/dev/null) 2>"$out/none" ;;
-        *) cp "$words" "$copy/crates/$1/args" && "$out/modelphases" $(cat "$words") 2>"$out/none" ;;
-        esac <"$input" >"$copy/crates/$1/stdout"
-        cp "$input" "$copy/crates/$1/stdin" || exit 2
-        (cd "$copy" && rt try "$1") >"$out/said" 2>&1 && continue
-        if [ "$(grep -c '^ok: the native program' "$out/said")" = 3 ] &&
-            grep -q '^the run did not finish within' "$out/said"; then
-            continue
-        fi
-        if ! grep -q '^FAIL: the native program' "$out/said"; then
-            cat "$out/said"
-            echo "$1 could not be run"
-            exit 2
-        fi
-        where="$1, recording ${input##*.}"
-        if [ "$1" = spurcalls ]; then
-            byte=$(sed -n '/^FAIL: the native/,$s/^on standard output, at byte \([0-9]*\).*/\1/p' \
-                "$out/said" | head -n 1)
-            call=$((${byte:-0} / 64))
-            op=$(od -An -tu1 -j $((call * 64)) -N 1 "$input" | tr -d ' ')
-            where="list ${input##*.}, call $call, operation $op"
-        fi
-        return 1
+        *) cp "$words" "$cases/$k.args" && "$out/modelphases" $(cat "$words") 2>"$out/none" ;;
+        esac <"$input" >"$cases/$k.stdout"
     done
+    (cd "$copy/crates/$1" && rt try --cases "$cases") >"$out/said" 2>&1 && return 0
+    shown=$(sed -n 's/^case=\([0-9]*\) .*\(run=fault\|output=differs\).*/\1/p' "$out/said" | head -n 1)
+    if [ -z "$shown" ]; then
+        grep -q '^cases=.* fault=0 differs=0 ' "$out/said" && return 0
+        cat "$out/said"
+        echo "$1 could not be run"
+        exit 2
+    fi
+    where="$1, recording $shown"
+    if [ "$1" = spurcalls ]; then
+        byte=$(sed -n "s/^the output differs from .$shown.stdout.: at byte \\([0-9]*\\).*/\\1/p" "$out/said" | head -n 1)
+        call=$((${byte:-0} / 64))
+        op=$(od -An -tu1 -j $((call * 64)) -N 1 "$inputs/$1.$shown" | tr -d ' ')
+        where="list $shown, call $call, operation $op"
+    fi
+    return 1
 }
 
 one() { # file, old, new, what
