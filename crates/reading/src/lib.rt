@@ -90,6 +90,7 @@ pub fn narrowed(number: u64) -> u8
 }
 
 // The hold limit of a program that takes nothing else: 16, or what its one argument says.
+#[tactic(auto, unfolding(crate::specs::Words::limit_given))]
 pub fn limit_given(words: usize, second: &[u8]) -> Number
     ensures { result ≡ limit_given words second.now }
 {
