@@ -34,6 +34,7 @@ fn both(slot: Number, limit: Number) -> Asked
 }
 
 // So many words were given, the program's own name among them.
+#[tactic(auto, unfolding(crate::specs::Words::asked_of))]
 fn asked_for(words: usize, slot: &[u8], limit: &[u8]) -> Asked
     ensures { result ≡ asked_of words slot.now limit.now }
 {
