@@ -43,6 +43,9 @@ enum Went {
     CantWrite,
 }
 
+// So many bytes are put on the page where a word has no line.
+const NO_BYTES: usize = 0;
+
 // Prints a word's line where it has one.
 fn tell(word: &[u8]) -> Went
     ensures { Goes (seconds_line word.now) result }
@@ -50,7 +53,7 @@ fn tell(word: &[u8]) -> Went
     let mut page = [0u8; 64];
     let line = put_line(&mut page, word);
     let size = line.at;
-    if size == 0 {
+    if size == NO_BYTES {
         return Went::NoLine;
     }
     if io::write_all(reading::STDOUT, &page[..size]) {
