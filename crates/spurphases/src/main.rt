@@ -216,13 +216,16 @@ fn told(input: Input, text: &mut [u8]) -> Said
     Said::Page(lines.at)
 }
 
+// The refusal number where nothing is refused.
+const NOT_REFUSED: u8 = 0;
+
 // Looks for the marks in what the reads bring, and makes the text of the report.
 fn report_input(stdin: Stdin, limit: u64, marks: Marks, buffer: &mut [u8], text: &mut [u8]) -> Said
     requires { length text.old ≡ 4096 }
     ensures { Prints limit marks text.new result }
 {
     let begun = phases::fresh(reading::narrowed(limit), marks);
-    if begun.number != 0 {
+    if begun.number != NOT_REFUSED {
         let line = printed::put_refused(text, Place::front(), begun.number);
         return Said::Page(line.at);
     }
