@@ -239,6 +239,7 @@ const PIECE: usize = 1024;
 const TURNS: u32 = 16777217;
 
 // How many bytes to read next, so many records having been walked: a piece, and none behind record TO.
+#[tactic(auto, unfolding(crate::specs::Shown::piece_of))]
 fn piece_size(asked: Asked, place: u32) -> usize
     ensures value { result ≡ piece_of asked place }
     ensures upper_bound { result ≤ 1024 }
