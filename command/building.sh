@@ -5,7 +5,7 @@
 # The toolchain's folder: its loader and C library run a proved program.
 toolchain() {
     command -v rt >/dev/null 2>&1 || die "rt, the Rattle toolchain's command, is not on the PATH"
-    tools=$(dirname "$(rt doc)")/toolchain
+    tools=$(dirname "$(rt doc </dev/null)")/toolchain # it reads nothing, and fails where its input is a folder
 }
 
 # The words in front of a proved program's path.
