@@ -63,6 +63,9 @@ def tried(work):
     with tempfile.TemporaryDirectory(prefix="wrongbuilds-") as room:
         shutil.copy(os.path.join(root, "crates.txt"), room)
         shutil.copytree(os.path.join(root, "crates"), os.path.join(room, "crates"), ignore=shutil.ignore_patterns("out"))
+        # the libraries that `rt ci` has built: without them each copy would build those below anew
+        for rlib in glob.glob(f"{root}/crates/*/out/rlib"):
+            shutil.copytree(rlib, os.path.join(room, os.path.relpath(rlib, root)), copy_function=shutil.copy2)
         folder = os.path.join(room, "crates", crate)
         for edit in edits:
             with open(edit, encoding="utf-8") as f:
