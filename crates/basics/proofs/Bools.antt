@@ -1,6 +1,6 @@
 -- Laws of tests and choices, for every crate. Assumes nothing.
-use mathlib.Core.Path.{◌≡◌, refl, sym, ap, ◌∙◌}
-use mathlib.Core.Bool.{Bool, true, false, cond, not, ◌&&◌, ◌||◌, true≢false, false≢true}
+use mathlib.Core.Path.{◌≡◌, refl}
+use mathlib.Core.Bool.{Bool, true, false, cond, ◌&&◌, false≢true}
 use Rattle.basics.specs.Order.{implies}
 
 -- what holds of both choices, each where its test led there, holds of the choice

@@ -8,7 +8,7 @@ use native.Mathlib.Numerals.{one-add}
 use lib.Count.{ones, ones_cat}
 use lib.Pow.{mod-pow-add, pow_pos}
 use Rattle.basics.specs.Lines.{bit, active, active_below}
-use Rattle.basics.proofs.Bits.{bit_less, active-bit, inactive_bit}
+use Rattle.basics.proofs.Bits.{active-bit, inactive_bit}
 
 one_bit : (r : ℕ) → r < 2 → ones r ≡ r
 unfolding ones
