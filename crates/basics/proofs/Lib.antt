@@ -1,3 +1,4 @@
 pub mod Bools
 pub mod Bits
 pub mod Count
+pub mod Refusals
