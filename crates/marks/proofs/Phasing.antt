@@ -23,6 +23,7 @@ use Rattle.marks.specs.declared.Why.{Why}
 use Rattle.marks.specs.declared.Why.TheVariants.{Complete, AtBreach, Torn, TooMany, Absent, OutOfBounds}
 use Rattle.marks.specs.Marks.{MarkAt}
 use Rattle.marks.specs.Report.{NotYet, Because, Right}
+use Rattle.basics.specs.Answers.{accepted}
 use Rattle.marks.specs.State.{some_marks, named_to, lawful_marks, under_way, begin_refusal, begun_of, fresh_phases, fed_phases, phased_of, phases_bounds, report_of}
 use Rattle.marks.specs.Pieces.{fed_all, report_in, summed, Phasing}
 use Rattle.marks.proofs.Only.{mark-only, mark-earlier, right-only}
@@ -74,7 +75,7 @@ module _ (limit : ℕ) (m : Marks) (lawful : begin_refusal limit m ≡ 0) where
   unfolding report_in
   right bytes = (fed-right limit low high m named bytes).1
 
-  accepts : (pieces : List (List ℕ)) (piece : List ℕ) → phased_of (fed_all fresh pieces) piece ≡ record { number = 0; phases = fed_phases (fed_all fresh pieces) piece }
+  accepts : (pieces : List (List ℕ)) (piece : List ℕ) → phased_of (fed_all fresh pieces) piece ≡ accepted (fed_phases (fed_all fresh pieces) piece)
   unfolding phased_of
   accepts pieces piece = cond-true _ _ (ap phases_bounds (fed-all pieces) ∙ (fed-right limit low high m named (joined pieces)).0)
 

@@ -9,6 +9,7 @@ use lib.ListN.{length, take, drop, get_or, length-drop, drop_of_length-le}
 use lib.Seq.{length-take-le, drop-drop, take_all}
 use lib.Dec.{eqb, ltb, leb}
 use borrow.Author.Tests.{eqb-true, eqb-false, ltb-true, ltb-false, lt-ltb, le-ltb, leb-true, leb-false, le-leb}
+use Rattle.std.proofs.Common.{Option, None, Some}
 use Rattle.basics.proofs.Bools.{choice, by-test, cond-true, cond-false, not-true, and_both, both_and}
 use Rattle.record.specs.declared.Record.{Record}
 use Rattle.record.specs.Layout.{record_in}
@@ -37,8 +38,6 @@ use Rattle.feeding.proofs.Bounds.{are_bounds}
 use Rattle.feeding.proofs.GoOn.{after-breach, after-past, after-going}
 use Rattle.marks.specs.declared.Mark.{Mark}
 use Rattle.marks.specs.declared.Marks.{Marks}
-use Rattle.marks.specs.declared.Pending.{Pending}
-use Rattle.marks.specs.declared.Pending.TheVariants.{Nothing, Since}
 use Rattle.marks.specs.declared.Phases.{Phases}
 use Rattle.marks.specs.declared.Search.{Search}
 use Rattle.marks.specs.declared.Why.{Why}
@@ -132,9 +131,9 @@ seen-found k s r span =
     let P : Search → Type 0 = λ x. x.found ≤ s.found + 1 in
     choice P r.reset (λ _. omega arith) (λ _. choice P r.start (λ _. omega arith) (λ _. choice P r.ack (λ _. acks s.pending) (λ _. omega arith)))
   where
-    acks : (w : Pending) → (acked s w (r.tm1 && r.tm0)).found ≤ s.found + 1
-    acks Nothing = omega arith
-    acks (Since x) = choice (λ (y : Search). y.found ≤ s.found + 1) (r.tm1 && r.tm0) (λ _. omega arith) (λ _. omega arith)
+    acks : (w : Option ℕ) → (acked s w (r.tm1 && r.tm0)).found ≤ s.found + 1
+    acks None = omega arith
+    acks (Some x) = choice (λ (y : Search). y.found ≤ s.found + 1) (r.tm1 && r.tm0) (λ _. omega arith) (λ _. omega arith)
 
 lacks : (count found : ℕ) → found < count → leb count found ≡ false
 lacks count found lt = not-true (leb count found) (λ e. let z = leb-true count found e in omega arith)

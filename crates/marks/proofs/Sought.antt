@@ -8,6 +8,7 @@ use lib.ListN.{length, get_or, set, replicate, length-set}
 use lib.Seq.{get_or-set_same, get_or-set_other}
 use lib.Dec.{ltb}
 use borrow.Author.Tests.{ltb-true, ltb-false}
+use Rattle.std.proofs.Common.{Option, None, Some}
 use Rattle.basics.proofs.Bools.{choice, by-test, and_both}
 use Rattle.record.specs.declared.Record.{Record}
 use Rattle.codes.specs.Start.{decode_of}
@@ -16,8 +17,6 @@ use Rattle.rules.proofs.Places.{below, clash, off_iff}
 use Rattle.rules.proofs.Hold.{opened-next, opened_now, opened-before}
 use Rattle.marks.specs.declared.Mark.{Mark}
 use Rattle.marks.specs.declared.Marks.{Marks}
-use Rattle.marks.specs.declared.Pending.{Pending}
-use Rattle.marks.specs.declared.Pending.TheVariants.{Nothing, Since}
 use Rattle.marks.specs.declared.Search.{Search}
 use Rattle.marks.specs.Marks.{mark_at, is_start_of, writes_to, Written, FirstWrite, MarkAt, first, next}
 use Rattle.marks.specs.Report.{FoundAt}
@@ -35,9 +34,9 @@ pub record Waited (r : Lines) (m : Mark) (from i k : ℕ) : Type 0 where
   pub opened : Opened r i k
   pub behind : from ≤ k
 
-abbrev pub PendingIs : Lines → Mark → ℕ → ℕ → Pending → Type 0
-PendingIs r m from i Nothing = (k : ℕ) → Waited r m from i k → ⊥
-PendingIs r m from i (Since span) = (k : ℕ) × Waited r m from i k × (span ≡ cycle r k)
+abbrev pub PendingIs : Lines → Mark → ℕ → ℕ → Option ℕ → Type 0
+PendingIs r m from i None = (k : ℕ) → Waited r m from i k → ⊥
+PendingIs r m from i (Some span) = (k : ℕ) × Waited r m from i k × (span ≡ cycle r k)
 
 pub record SearchIs (r : Lines) (m : Marks) (i : ℕ) (s : Search) : Type 0 where
   pub from : ℕ
@@ -70,7 +69,7 @@ module _ (r : Lines) (m : Marks) (i : ℕ) (s : Search) (h : SearchIs r m i s) w
   abbrev mark : Mark
   mark = mark_at m s.found
 
-  still : (w : Pending) → PendingIs r mark h.from (suc i) w → ((k : ℕ) → h.from ≤ k → Written r mark k i → ⊥) → SearchIs r m (suc i) (waiting s w)
+  still : (w : Option ℕ) → PendingIs r mark h.from (suc i) w → ((k : ℕ) → h.from ≤ k → Written r mark k i → ⊥) → SearchIs r m (suc i) (waiting s w)
   still w p here =
       record {
         from = h.from;
@@ -84,21 +83,21 @@ module _ (r : Lines) (m : Marks) (i : ℕ) (s : Search) (h : SearchIs r m i s) w
       }
 
   -- RESET drops what is waited for
-  after-reset : (r i).reset ≡ true → SearchIs r m (suc i) (waiting s Nothing)
+  after-reset : (r i).reset ≡ true → SearchIs r m (suc i) (waiting s None)
   after-reset e =
-      still Nothing
+      still None
       (λ k w. clash e (w.opened.unbroken i (let z = w.opened.earlier in let y : k ≤ i = omega arith in y) (omega arith)))
       (λ k le w. clash e w.alive)
 
   -- a START is the mark's,
-  after-start : (r i).reset ≡ false → (r i).start ≡ true → is_start_of mark (r i) ≡ true → SearchIs r m (suc i) (waiting s (Since (cycle r i)))
+  after-start : (r i).reset ≡ false → (r i).start ≡ true → is_start_of mark (r i) ≡ true → SearchIs r m (suc i) (waiting s (Some (cycle r i)))
   after-start nr st e =
-      still (Since (cycle r i)) (i, record { begins = e; opened = opened_now r i nr st (unanswered mark (r i) e); behind = h.reached }, refl) (λ k le w. clash st w.plain)
+      still (Some (cycle r i)) (i, record { begins = e; opened = opened_now r i nr st (unanswered mark (r i) e); behind = h.reached }, refl) (λ k le w. clash st w.plain)
 
   -- or not
-  after-other : (r i).start ≡ true → is_start_of mark (r i) ≡ false → SearchIs r m (suc i) (waiting s Nothing)
+  after-other : (r i).start ≡ true → is_start_of mark (r i) ≡ false → SearchIs r m (suc i) (waiting s None)
   after-other st e =
-      still Nothing
+      still None
       (λ k w. below k i w.opened.earlier (λ lt. clash st (w.opened.alone i lt (omega arith))) (λ q. clash (subst (λ x. is_start_of mark (r x) ≡ true) q w.begins) e))
       (λ k le w. clash st w.plain)
 
@@ -123,7 +122,7 @@ module _ (r : Lines) (m : Marks) (i : ℕ) (s : Search) (h : SearchIs r m i s) w
     is_there _ _ start f = first f
     is_there _ _ (later x) f = next x f
 
-    counted : (span : ℕ) → span ≡ cycle r k → s.found < 32 → SearchIs r m (suc i) (record { spans = set s.spans s.found span; found = s.found + 1; pending = Nothing })
+    counted : (span : ℕ) → span ≡ cycle r k → s.found < 32 → SearchIs r m (suc i) (record { spans = set s.spans s.found span; found = s.found + 1; pending = None })
     counted span e room =
         record {
           from = suc i;
@@ -148,30 +147,30 @@ module _ (r : Lines) (m : Marks) (i : ℕ) (s : Search) (h : SearchIs r m i s) w
         long : s.found < length s.spans
         long = let z = h.places in omega arith
 
-  after-ack : (w : Pending) → PendingIs r mark h.from i w → s.found < 32 → (r i).reset ≡ false → (r i).start ≡ false → (r i).ack ≡ true → SearchIs r m (suc i) (acked s w ((r i).tm1 && (r i).tm0))
-  after-ack Nothing p room nr ns a =
-      still Nothing (ended ns a) (λ k le v. p k (record { begins = v.begins; opened = v.opened; behind = le }))
-  after-ack (Since span) (k, w, e) room nr ns a =
+  after-ack : (w : Option ℕ) → PendingIs r mark h.from i w → s.found < 32 → (r i).reset ≡ false → (r i).start ≡ false → (r i).ack ≡ true → SearchIs r m (suc i) (acked s w ((r i).tm1 && (r i).tm0))
+  after-ack None p room nr ns a =
+      still None (ended ns a) (λ k le v. p k (record { begins = v.begins; opened = v.opened; behind = le }))
+  after-ack (Some span) (k, w, e) room nr ns a =
       choice (SearchIs r m (suc i)) ((r i).tm1 && (r i).tm0)
       (λ both. let t = and_both (r i).tm1 (r i).tm0 both in counted k w nr ns a t.0 t.1 span e room)
-      (λ no. still Nothing (ended ns a) (λ l le v. clash (pair v.tm1 v.tm0) no))
+      (λ no. still None (ended ns a) (λ l le v. clash (pair v.tm1 v.tm0) no))
     where
       pair : (r i).tm1 ≡ true → (r i).tm0 ≡ true → ((r i).tm1 && (r i).tm0) ≡ true
       pair x y = rw (x, y)
 
   -- any other record changes nothing
-  kept : (w : Pending) → (r i).reset ≡ false → (r i).start ≡ false → (r i).ack ≡ false → PendingIs r mark h.from i w → PendingIs r mark h.from (suc i) w
-  kept Nothing nr ns na p = λ k w.
+  kept : (w : Option ℕ) → (r i).reset ≡ false → (r i).start ≡ false → (r i).ack ≡ false → PendingIs r mark h.from i w → PendingIs r mark h.from (suc i) w
+  kept None nr ns na p = λ k w.
       below k i w.opened.earlier (λ lt. p k (record { begins = w.begins; opened = opened-before r i k w.opened lt; behind = w.behind }))
       (λ q. clash (subst (λ x. (r x).start ≡ true) q w.opened.starts) ns)
-  kept (Since span) nr ns na (k, w, e) = (k, record { begins = w.begins; opened = opened-next r i k w.opened nr ns na; behind = w.behind }, e)
+  kept (Some span) nr ns na (k, w, e) = (k, record { begins = w.begins; opened = opened-next r i k w.opened nr ns na; behind = w.behind }, e)
 
   pub search_next : s.found < 32 → SearchIs r m (suc i) (seen_of mark s (r i) (cycle r i))
   unfolding seen_of
   search_next room =
       choice (SearchIs r m (suc i)) (r i).reset after-reset (λ nr.
       choice (SearchIs r m (suc i)) (r i).start
-      (λ st. choice (λ (w : Pending). SearchIs r m (suc i) (waiting s w)) (is_start_of mark (r i)) (after-start nr st) (after-other st)) (λ ns.
+      (λ st. choice (λ (w : Option ℕ). SearchIs r m (suc i) (waiting s w)) (is_start_of mark (r i)) (after-start nr st) (after-other st)) (λ ns.
       choice (SearchIs r m (suc i)) (r i).ack (after-ack s.pending h.pending room nr ns)
       (λ na. still s.pending (kept s.pending nr ns na h.pending) (λ k le w. clash w.ends na))))
 

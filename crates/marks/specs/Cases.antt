@@ -6,28 +6,16 @@ use Rattle.marks.specs.declared.Mark.{Mark}
 use Rattle.marks.specs.declared.Marks.{Marks}
 use Rattle.marks.specs.declared.Why.{Why}
 use Rattle.marks.specs.declared.Why.TheVariants.{Complete, AtBreach, Torn, Absent}
+use Rattle.marks.specs.Marks.{zero_mark}
 use Rattle.marks.specs.Pieces.{report_in}
 
 -- ---- marks
 abbrev pub to : ℕ → ℕ → Mark
 to slot number = record { slot = slot; number = number }
 
-abbrev pub slots_of : List Mark → List ℕ
-slots_of [] = []
-slots_of (m ∷ ms) = m.slot ∷ slots_of ms
-
-abbrev pub numbers_of : List Mark → List ℕ
-numbers_of [] = []
-numbers_of (m ∷ ms) = m.number ∷ numbers_of ms
-
 -- the marks in order, zeros behind them
 abbrev pub marks_of : List Mark → Marks
-marks_of ms =
-    record {
-      slots = take 32 (slots_of ms ++ replicate 32 0);
-      numbers = take 32 (numbers_of ms ++ replicate 32 0);
-      count = length ms;
-    }
+marks_of ms = record { marks = take 32 (ms ++ replicate 32 zero_mark); count = length ms }
 
 -- ---- records
 -- a START that writes at AD: TM1 active, TM0 not; RQST falls in it, or it is parked

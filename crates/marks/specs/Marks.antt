@@ -12,9 +12,13 @@ use Rattle.rules.specs.Recording.{Lines, Opened}
 use Rattle.marks.specs.declared.Mark.{Mark}
 use Rattle.marks.specs.declared.Marks.{Marks}
 
+-- what stands where there is no mark
+abbrev pub zero_mark : Mark
+zero_mark = record { slot = 0; number = 0 }
+
 -- mark p of those that the caller names, counted from 0
 abbrev pub mark_at : Marks → ℕ → Mark
-mark_at m p = record { slot = get_or m.slots p 0; number = get_or m.numbers p 0 }
+mark_at m p = get_or m.marks p zero_mark
 
 -- ---- a mark's START
 abbrev pub is_word : Unit → Bool

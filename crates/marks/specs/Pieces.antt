@@ -1,5 +1,6 @@
 -- An input in pieces of any length: what `finish` reports is right of the whole input's recording.
 use Rattle.std.specs.Prelude.{ℕ, zero, suc, ◌+◌, ◌≤◌, ◌<◌, false, List, [], ◌∷◌, ◌++◌, ◌≡◌, get_or}
+use Rattle.basics.specs.Answers.{accepted}
 use Rattle.rules.specs.Recording.{recording_in, cycle}
 use Rattle.rules.specs.Exact.{joined}
 use Rattle.rules.specs.Thirteen.{Keeps}
@@ -29,10 +30,10 @@ summed spans (suc n) = summed spans n + diff_at spans (suc n)
 -- THE PROMISE to whoever feeds an input in pieces, for each hold limit and all marks that are not refused
 pub record Phasing (limit : ℕ) (m : Marks) : Type 0 where
   -- A fresh state is there, and is where the feeding begins.
-  pub begins : begun_of limit m ≡ record { number = 0; phases = fresh_phases limit m }
+  pub begins : begun_of limit m ≡ accepted (fresh_phases limit m)
   -- No piece is refused, and the call's answer is the next state.
   pub accepts : (pieces : List (List ℕ)) (piece : List ℕ)
-      → let p = fed_all (fresh_phases limit m) pieces in phased_of p piece ≡ record { number = 0; phases = fed_phases p piece }
+      → let p = fed_all (fresh_phases limit m) pieces in phased_of p piece ≡ accepted (fed_phases p piece)
   -- Whatever the pieces are, the end reports what the whole input has,
   pub says : (pieces : List (List ℕ)) → report_of (fed_all (fresh_phases limit m) pieces) ≡ report_in limit m (joined pieces)
   -- which is right of the recording itself,

@@ -1,5 +1,6 @@
 -- A search for marks that is fed an input in pieces: its state, its bounds for refusal 5, and what `fresh`, `feed` and `finish` answer.
-use Rattle.std.specs.Prelude.{ℕ, zero, suc, ◌+◌, Bool, true, not, cond, ◌&&◌, List, [], ◌++◌, take, drop, get_or, set, replicate, eqb, leb}
+use Rattle.std.specs.Prelude.{ℕ, zero, suc, ◌+◌, Bool, true, not, cond, ◌&&◌, Option, None, Some, List, [], ◌++◌, take, drop, get_or, set, replicate, eqb, leb}
+use Rattle.basics.specs.Answers.{Answer, accepted, refused}
 use Rattle.basics.specs.Numbers.{lawful_limit}
 use Rattle.basics.specs.Order.{unless}
 use Rattle.record.specs.declared.Record.{Record}
@@ -12,15 +13,12 @@ use Rattle.feeding.specs.Input.{whole_in}
 use Rattle.feeding.specs.State.{goes, torn_of, stream_bounds, state_with, fresh_stream, no_stream, feed_of, finish_of}
 use Rattle.marks.specs.declared.Mark.{Mark}
 use Rattle.marks.specs.declared.Marks.{Marks}
-use Rattle.marks.specs.declared.Pending.{Pending}
-use Rattle.marks.specs.declared.Pending.TheVariants.{Nothing, Since}
 use Rattle.marks.specs.declared.Search.{Search}
 use Rattle.marks.specs.declared.Phases.{Phases}
-use Rattle.marks.specs.declared.Phased.{Phased}
 use Rattle.marks.specs.declared.Why.{Why}
 use Rattle.marks.specs.declared.Why.TheVariants.{Complete, AtBreach, Torn, TooMany, Absent, OutOfBounds}
 use Rattle.marks.specs.declared.Report.{Report}
-use Rattle.marks.specs.Marks.{mark_at, is_start_of}
+use Rattle.marks.specs.Marks.{zero_mark, mark_at, is_start_of}
 use Rattle.marks.specs.Report.{diffs_of}
 
 -- ---- the marks
@@ -41,21 +39,21 @@ unfoldable pub begin_refusal : ℕ → Marks → ℕ
 begin_refusal limit m = unless (some_marks m) 9 (unless (named_to m m.count) 2 (unless (lawful_limit limit) 3 0))
 
 -- ---- the search
-abbrev pub waiting : Search → Pending → Search
+abbrev pub waiting : Search → Option ℕ → Search
 waiting s w = record { spans = s.spans; found = s.found; pending = w }
 
 -- a success counts the write that was waited for, with the span at its START; any other end drops it
-abbrev pub acked : Search → Pending → Bool → Search
-acked s Nothing success = waiting s Nothing
-acked s (Since span) success =
-    cond success (record { spans = set s.spans s.found span; found = s.found + 1; pending = Nothing }) (waiting s Nothing)
+abbrev pub acked : Search → Option ℕ → Bool → Search
+acked s None success = waiting s None
+acked s (Some span) success =
+    cond success (record { spans = set s.spans s.found span; found = s.found + 1; pending = None }) (waiting s None)
 
 -- after a record, the mark looked for being this one and the span up to the record so many cycles: RESET drops what is waited for; a START is the
 -- mark's or not; an ACK ends it
 unfoldable pub seen_of : Mark → Search → Record → ℕ → Search
 seen_of m s r span =
-    cond r.reset (waiting s Nothing)
-    (cond r.start (waiting s (cond (is_start_of m r) (Since span) Nothing))
+    cond r.reset (waiting s None)
+    (cond r.start (waiting s (cond (is_start_of m r) (Some span) None))
     (cond r.ack (acked s s.pending (r.tm1 && r.tm0)) s))
 
 -- all marks are found
@@ -102,7 +100,7 @@ gone_through (suc n) p bytes = gone_through n (next_seen p (take 16 bytes)) (dro
 
 -- ---- the calls
 abbrev pub fresh_search : Search
-fresh_search = record { spans = replicate 32 0; found = 0; pending = Nothing }
+fresh_search = record { spans = replicate 32 0; found = 0; pending = None }
 
 -- an input from the start
 unfoldable pub fresh_phases : ℕ → Marks → Phases
@@ -110,14 +108,13 @@ fresh_phases limit m = record { stream = fresh_stream limit; marks = m; search =
 
 -- all zeros: what a refusal gives
 abbrev pub no_marks : Marks
-no_marks = record { slots = replicate 32 0; numbers = replicate 32 0; count = 0 }
+no_marks = record { marks = replicate 32 zero_mark; count = 0 }
 
 unfoldable pub no_phases : Phases
 no_phases = record { stream = no_stream; marks = no_marks; search = fresh_search }
 
-unfoldable pub begun_of : ℕ → Marks → Phased
-begun_of limit m =
-    cond (eqb (begin_refusal limit m) 0) (record { number = 0; phases = fresh_phases limit m }) (record { number = begin_refusal limit m; phases = no_phases })
+unfoldable pub begun_of : ℕ → Marks → Answer Phases
+begun_of limit m = cond (eqb (begin_refusal limit m) 0) (accepted (fresh_phases limit m)) (refused (begin_refusal limit m) no_phases)
 
 -- a piece is put behind the torn record; once this is over, nothing changes any more
 abbrev pub untorn : Phases → Phases
@@ -128,8 +125,8 @@ fed_phases p piece =
     cond (under_way p) (gone_through (whole_in (torn_of p.stream ++ piece)) (untorn p) (torn_of p.stream ++ piece)) p
 
 -- refusal 5 hands the state back
-unfoldable pub phased_of : Phases → List ℕ → Phased
-phased_of p piece = cond (phases_bounds p) (record { number = 0; phases = fed_phases p piece }) (record { number = 5; phases = p })
+unfoldable pub phased_of : Phases → List ℕ → Answer Phases
+phased_of p piece = cond (phases_bounds p) (accepted (fed_phases p piece)) (refused 5 p)
 
 -- why the report ends, from the judge's verdict on what was fed: a conforming end lacks the mark that is looked for
 abbrev pub lacking : ℕ → Verdict → Why

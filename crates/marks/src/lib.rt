@@ -6,33 +6,29 @@ use feeding::Stream;
 use rules::Broken;
 
 // A slot and an interrupt number.
-#[derive(Clone, Copy)]
+#[derive(Clone, Copy, Default)]
 pub struct Mark {
     pub slot: u8,
     pub number: u8,
 }
 
-// The marks that are looked for, in order: the first `count` of the slots, and of the interrupt numbers.
-#[derive(Clone, Copy)]
+// The marks that are looked for, in order: the first `count` of the array. A caller may name more than 32, which is refused, so `count` says how many
+// were named.
+// Stays: `count` beside an array of 32, for refusal 9 of more marks than there is room for (`some_marks`), and no heap is used.
+#[derive(Clone, Copy, Default)]
 pub struct Marks {
-    pub slots: [u8; 32],
-    pub numbers: [u8; 32],
+    pub marks: [Mark; 32],
     pub count: usize,
 }
 
-// The write to the next mark whose ACK is waited for, if there is one: the span at its START.
-#[derive(Clone, Copy)]
-pub enum Pending {
-    Nothing,
-    Since(u64),
-}
-
-// How far the marks are found: the spans at the first `found` of them.
-#[derive(Clone, Copy)]
+// How far the marks are found: the spans at the first `found` of them, and the write to the next one whose ACK is waited for, if there is one: the span
+// at its START.
+// Stays: `found` beside an array of 32, since no heap is used, and refusal 5 tells a state that has found more than there are (`phases_bounds`).
+#[derive(Clone, Copy, Default)]
 pub struct Search {
     pub spans: [u64; 32],
     pub found: usize,
-    pub pending: Pending,
+    pub pending: Option<u64>,
 }
 
 // The input so far: as the judge has it, and as the search for the marks has it.
@@ -41,13 +37,6 @@ pub struct Phases {
     pub stream: Stream,
     pub marks: Marks,
     pub search: Search,
-}
-
-// A call's number, 0 where it is accepted, and the state that it leaves.
-#[derive(Clone, Copy)]
-pub struct Phased {
-    pub number: u8,
-    pub phases: Phases,
 }
 
 // Why a report ends where it does: at the last mark's ACK, at a breach, at a torn record, at a whole record past 2^30, or at the input's end
