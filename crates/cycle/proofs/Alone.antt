@@ -1,10 +1,10 @@
 -- A START comes only where no transfer was open before the cycle. Assumes nothing.
+use Rattle.std.specs.Prelude.{Some}
 use Prim.Native.Nat.{ℕ}
 use mathlib.Core.Path.{◌≡◌, ap, subst}
 use mathlib.Core.Bool.{true, false≢true}
 use Rattle.cycle.specs.declared.Bus.{Bus}
 use Rattle.cycle.specs.declared.Arbitration.{Arbitration}
-use Rattle.cycle.specs.declared.Owner.TheVariants.{Slot}
 use Rattle.cycle.specs.declared.Transfer.TheVariants.{Idle}
 use Rattle.cycle.specs.Arbitration.{formed}
 use Rattle.cycle.specs.Cycle.{starts_of, cycle_of, cycle_by, moved_by, reply_by}
@@ -21,6 +21,6 @@ alone_by b i r (holds_off n l w a t e) h = absurd (false≢true (subst (λ (a : 
 alone_by b i r (repeats n l t u e) h = t
 alone_by b i r (retires n l t e) h = t
 
-pub alone : (b : Bus) (i : Input) (s : ℕ) → start_in b i ≡ Slot s → b.transfer ≡ Idle
+pub alone : (b : Bus) (i : Input) (s : ℕ) → start_in b i ≡ Some s → b.transfer ≡ Idle
 unfolding start_in cycle_in cycle_of shown_by arb
 alone b i s e = alone_by b i (arb b i) (view b i) (ap starts_of e)

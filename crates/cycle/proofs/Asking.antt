@@ -1,4 +1,5 @@
 -- What "asks until it starts" and "no second turn" amount to (`Meant` of specs/Pinned.antt). Assumes nothing.
+use Rattle.std.specs.Prelude.{Option, Some}
 use Prim.Native.Nat.{ℕ, ◌<◌}
 use mathlib.Core.Path.{◌≡◌, refl}
 use mathlib.Core.Bool.{Bool, true, false}
@@ -8,13 +9,11 @@ use lib.Dec.{eqb}
 use borrow.Author.Tests.{eq-eqb, ne_eqb, eqb-true}
 use Rattle.basics.proofs.Bools.{by-test}
 use Rattle.cycle.specs.declared.Bus.{Bus}
-use Rattle.cycle.specs.declared.Owner.{Owner}
-use Rattle.cycle.specs.declared.Owner.TheVariants.{Slot}
 use Rattle.cycle.specs.Runs.{Input, next, after, start_in, count, turn_goes_on, one_turn, Still, is_slot, Asks}
 use Rattle.cycle.specs.Pinned.{Wanting, Meant}
 
 -- once m has started nothing more is asked; and what holds anyway holds as long as it is asked
-done : (m : ℕ) (o : Owner) (X : Type 0) → o ≡ Slot m → Still (is_slot m o) X
+done : (m : ℕ) (o : Option ℕ) (X : Type 0) → o ≡ Some m → Still (is_slot m o) X
 done m o X e = rw (e, eq-eqb m m refl) tt
 
 still : (c : Bool) {X : Type 0} → X → Still c X
@@ -22,7 +21,7 @@ still true x = tt
 still false x = x
 
 until_start_lem : (m : ℕ) (b : Bus) (before : List Input) (i : Input) (later : List Input)
-    → Wanting m (before ++ (i ∷ [])) → start_in (after b before) i ≡ Slot m → Asks m b (before ++ (i ∷ later))
+    → Wanting m (before ++ (i ∷ [])) → start_in (after b before) i ≡ Some m → Asks m b (before ++ (i ∷ later))
 unfolding after
 until_start_lem m b [] i later w e = (w.0, done m (start_in b i) _ e)
 until_start_lem m b (j ∷ before) i later w e = (w.0, still (is_slot m (start_in b j)) (until_start_lem m (next b j) before i later w.1 e))

@@ -1,4 +1,5 @@
 -- The bounds of a state as facts; an open transfer keeps them and comes nearer its end. Assumes nothing.
+use Rattle.std.specs.Prelude.{Option, Some, None}
 use Prim.Native.Nat.{ℕ, zero, suc, ◌+◌, ◌-◌, ◌*◌, ◌^◌, ◌<◌, ◌≤◌}
 use mathlib.Core.Path.{◌≡◌, refl, ap, ◌∙◌}
 use mathlib.Core.Bool.{Bool, true, false, cond, not, ◌||◌}
@@ -14,8 +15,6 @@ use Rattle.cycle.specs.declared.Bus.{Bus}
 use Rattle.cycle.specs.declared.Progress.{Progress}
 use Rattle.cycle.specs.declared.Event.{Event}
 use Rattle.cycle.specs.declared.Event.TheVariants.{Nothing, Strobe, Finish}
-use Rattle.cycle.specs.declared.Owner.{Owner}
-use Rattle.cycle.specs.declared.Owner.TheVariants.{Nobody, Slot}
 use Rattle.cycle.specs.declared.Transfer.{Transfer}
 use Rattle.cycle.specs.declared.Transfer.TheVariants.{Idle, Open}
 use Rattle.cycle.specs.declared.Note.{Note}
@@ -30,9 +29,9 @@ unfoldable pub left : Transfer → ℕ
 left Idle = 0
 left (Open w a) = watchdog * w - a
 
-abbrev pub OwnerIn : Owner → Type 0
-OwnerIn Nobody = Unit {0}
-OwnerIn (Slot s) = s < 16
+abbrev pub OwnerIn : Option ℕ → Type 0
+OwnerIn None = Unit {0}
+OwnerIn (Some s) = s < 16
 
 abbrev pub TransferIn : Transfer → Type 0
 TransferIn Idle = Unit {0}
@@ -103,10 +102,10 @@ word-le n e = go (eqb n 0) refl (eqb n 1) refl (eqb n 2) refl (eqb n 4) refl (eq
     go false f false g false h false j true k x = omega (arith, eqb-true n 8 k)
     go false f false g false h false j false k x = omega (arith, eqb-true n 16 x)
 
-opened_in : (s : Owner) (wants : ℕ) (words : List ℕ) → OwnerIn s → lawful_words words ≡ true → TransferIn (opened s wants words)
+opened_in : (s : Option ℕ) (wants : ℕ) (words : List ℕ) → OwnerIn s → lawful_words words ≡ true → TransferIn (opened s wants words)
 unfolding opened attends
-opened_in Nobody wants words o w = tt
-opened_in (Slot i) wants words o w = go (mem i wants) (eqb (get_or words i 0) 0) refl
+opened_in None wants words o w = tt
+opened_in (Some i) wants words o w = go (mem i wants) (eqb (get_or words i 0) 0) refl
   where
     go : (c d : Bool) → eqb (get_or words i 0) 0 ≡ d → TransferIn (cond (not c || d) Idle (Open (get_or words i 0) 0))
     go false d q = tt
@@ -115,14 +114,14 @@ opened_in (Slot i) wants words o w = go (mem i wants) (eqb (get_or words i 0) 0)
         let n : get_or words i 0 ≡ 0 → ⊥ = eqb-false (get_or words i 0) 0 q in
         (omega arith, word-le (get_or words i 0) (word_at 16 words i o w), omega arith)
 
-pub progress_in : (t : Transfer) (e : Event) (s : Owner) (wants : ℕ) (words : List ℕ) → TransferIn t → OwnerIn s → lawful_words words ≡ true
+pub progress_in : (t : Transfer) (e : Event) (s : Option ℕ) (wants : ℕ) (words : List ℕ) → TransferIn t → OwnerIn s → lawful_words words ≡ true
     → TransferIn (progress_of t e s wants words).transfer
 unfolding progress_of
 progress_in Idle e s wants words h o w = opened_in s wants words o w
 progress_in (Open n a) e s wants words h o w = (going_older e n a h.0 h.1 h.2).0
 
 -- with no START, an idle transfer stays idle and an open one comes nearer its end
-pub progress_left : (t : Transfer) (e : Event) (wants : ℕ) (words : List ℕ) → TransferIn t → left (progress_of t e Nobody wants words).transfer ≤ left t - 1
+pub progress_left : (t : Transfer) (e : Event) (wants : ℕ) (words : List ℕ) → TransferIn t → left (progress_of t e None wants words).transfer ≤ left t - 1
 unfolding progress_of opened left
 progress_left Idle e wants words h = omega arith
 progress_left (Open n a) e wants words h = let g = going_older e n a h.0 h.1 h.2 in omega (arith, g.1)

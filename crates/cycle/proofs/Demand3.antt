@@ -7,10 +7,10 @@ use native.Mathlib.Omega.{arith}
 use lib.ListN.{length}
 use borrow.Author.Tests.{eq-eqb}
 use Rattle.cycle.specs.declared.Bus.{Bus}
-use Rattle.cycle.specs.declared.Stepped.TheVariants.{Accepted}
+use Rattle.basics.specs.Answers.{accepted}
 use Rattle.cycle.specs.State.{fresh}
 use Rattle.cycle.specs.Bounds.{in_bounds, fresh_of}
-use Rattle.cycle.specs.Cycle.{state_by, moved_by, cycle_by, cycle_of, step_of, answer_of}
+use Rattle.cycle.specs.Cycle.{state_by, moved_by, cycle_by, cycle_of, step_of}
 use Rattle.cycle.specs.Nodes.{step_table_of}
 use Rattle.cycle.specs.Runs.{Input, cycle_in, next, after}
 use Rattle.cycle.specs.Demand3.{Demand3}
@@ -25,7 +25,7 @@ use Rattle.cycle.proofs.Shares.{ahead_of, share-within, thirty_most}
 use Rattle.cycle.proofs.OwnStart.{comes_of, pause_most_lem, turns-within}
 
 -- a call on a state within the bounds, with a run's input and no reset, is a cycle
-accepted-cycle : (b : Bus) (i : Input) → in_bounds b ≡ true → step_table_of b false i.event i.nodes ≡ answer_of (Accepted (cycle_in b i))
+accepted-cycle : (b : Bus) (i : Input) → in_bounds b ≡ true → step_table_of b false i.event i.nodes ≡ accepted (cycle_in b i)
 unfolding step_table_of step_of cycle_in
 accepted-cycle b i e = rw (e, eq-eqb (length i.nodes) 16 i.sixteen, i.lawful)
 

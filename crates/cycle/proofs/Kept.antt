@@ -1,4 +1,5 @@
 -- A call on a state within the bounds hands back a state within the bounds, accepted or not. Assumes nothing.
+use Rattle.std.specs.Prelude.{Option, Some, None}
 use Prim.Native.Nat.{ℕ, ◌^◌, ◌<◌}
 use mathlib.Core.Path.{◌≡◌}
 use mathlib.Core.Bool.{Bool, true, false, not, ◌&&◌, ◌||◌, false≢true}
@@ -13,8 +14,6 @@ use Rattle.cycle.specs.declared.Bus.{Bus}
 use Rattle.cycle.specs.declared.Moved.{Moved}
 use Rattle.cycle.specs.declared.Event.{Event}
 use Rattle.cycle.specs.declared.Node.{Node}
-use Rattle.cycle.specs.declared.Owner.{Owner}
-use Rattle.cycle.specs.declared.Owner.TheVariants.{Nobody, Slot}
 use Rattle.cycle.specs.declared.Transfer.{Transfer}
 use Rattle.cycle.specs.declared.Transfer.TheVariants.{Idle, Open}
 use Rattle.cycle.specs.State.{fresh}
@@ -34,10 +33,10 @@ pub record Fits (b : Bus) : Type 0 where
   pub wide : b.wave < 2 ^ 16
   pub old : AgeFits b.transfer
 
-owner_in : (o : Owner) → lawful_owner o ≡ true → OwnerIn o
+owner_in : (o : Option ℕ) → lawful_owner o ≡ true → OwnerIn o
 unfolding lawful_owner
-owner_in Nobody e = tt
-owner_in (Slot s) e = ltb-true s 16 e
+owner_in None e = tt
+owner_in (Some s) e = ltb-true s 16 e
 
 transfer_in : (t : Transfer) → AgeFits t → lawful_transfer t ≡ true → TransferIn t
 unfolding lawful_transfer

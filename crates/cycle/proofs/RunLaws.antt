@@ -1,4 +1,5 @@
 -- A run's cycle, taken apart: what its arbitration comes to, and then the state and the START. Assumes nothing.
+use Rattle.std.specs.Prelude.{Option}
 use Prim.Native.Nat.{ℕ, suc, ◌^◌, ◌<◌}
 use mathlib.Core.Path.{◌≡◌}
 use mathlib.Core.List.{List, ◌∷◌}
@@ -6,7 +7,6 @@ use borrow.Author.Tests.{eq-eqb, ne_eqb}
 use Rattle.cycle.specs.declared.Bus.{Bus}
 use Rattle.cycle.specs.declared.Arbitration.{Arbitration}
 use Rattle.cycle.specs.declared.Moved.{Moved}
-use Rattle.cycle.specs.declared.Owner.{Owner}
 use Rattle.cycle.specs.Arbitration.{arbitration_of}
 use Rattle.cycle.specs.Cycle.{cycle_by}
 use Rattle.cycle.specs.Runs.{Input, wants_in, holds_in, words_in, start_by, count}
@@ -23,7 +23,7 @@ cycle_with b i a = cycle_by b i.event (wants_in i) (words_in i) a
 unfoldable pub next_by : Bus → Input → Arbitration → Bus
 next_by b i a = (cycle_with b i a).bus
 
-unfoldable pub shown_by : Bus → Input → Arbitration → Owner
+unfoldable pub shown_by : Bus → Input → Arbitration → Option ℕ
 shown_by b i a = start_by (cycle_with b i a).reply
 
 pub wants_small : (i : Input) → wants_in i < 2 ^ 16

@@ -1,4 +1,5 @@
 -- Every state of a run is within the bounds, so that no call of it is refused for its state. Assumes nothing.
+use Rattle.std.specs.Prelude.{Option, Some, None}
 use Prim.Native.Nat.{ℕ, ◌≤◌}
 use mathlib.Core.Path.{◌≡◌, refl, sym, subst}
 use mathlib.Core.Bool.{true}
@@ -11,8 +12,6 @@ use Rattle.slots.specs.Set.{without, top}
 use Rattle.slots.proofs.MemberLaws.{without-le, mem-small}
 use Rattle.cycle.specs.declared.Bus.{Bus}
 use Rattle.cycle.specs.declared.Arbitration.{Arbitration}
-use Rattle.cycle.specs.declared.Owner.{Owner}
-use Rattle.cycle.specs.declared.Owner.TheVariants.{Nobody, Slot}
 use Rattle.cycle.specs.declared.Transfer.{Transfer}
 use Rattle.cycle.specs.declared.Transfer.TheVariants.{Idle, Open}
 use Rattle.cycle.specs.State.{fresh}
@@ -46,7 +45,7 @@ sound_by b i r s (forms z e) =
       turns = omega (arith, s.turns);
       limited = s.limited;
       owned = s.owned;
-      aging = progress_in _ i.event Nobody _ _ s.aging tt i.lawful;
+      aging = progress_in _ i.event None _ _ s.aging tt i.lawful;
       rest = λ q. refl;
       still = λ q. settled-zero 1 (wants_in i) q;
     })
@@ -59,7 +58,7 @@ sound_by b i r s (parks o z t m e) =
       turns = omega (arith, s.turns);
       limited = s.limited;
       owned = l;
-      aging = progress_in _ i.event (Slot o) _ _ s.aging l i.lawful;
+      aging = progress_in _ i.event (Some o) _ _ s.aging l i.lawful;
       rest = λ q. refl;
       still = λ q. settled-zero 1 (without o (wants_in i)) q;
     })
@@ -71,7 +70,7 @@ sound_by b i r s (settles n l e) =
       turns = s.turns;
       limited = s.limited;
       owned = s.owned;
-      aging = progress_in _ i.event Nobody _ _ s.aging tt i.lawful;
+      aging = progress_in _ i.event None _ _ s.aging tt i.lawful;
       rest = s.rest;
       still = λ q. absurd (n q);
     })
@@ -83,7 +82,7 @@ sound_by b i r s (holds_off n l w a t e) =
       turns = s.turns;
       limited = s.limited;
       owned = s.owned;
-      aging = progress_in _ i.event Nobody _ _ s.aging tt i.lawful;
+      aging = progress_in _ i.event None _ _ s.aging tt i.lawful;
       rest = s.rest;
       still = λ q. refl;
     })
@@ -96,7 +95,7 @@ sound_by b i r s (repeats n l t u e) =
       turns = u;
       limited = s.limited;
       owned = h;
-      aging = progress_in _ i.event (Slot (top b.wave)) _ _ s.aging h i.lawful;
+      aging = progress_in _ i.event (Some (top b.wave)) _ _ s.aging h i.lawful;
       rest = λ q. absurd (n q);
       still = λ q. absurd (n q);
     })
@@ -109,7 +108,7 @@ sound_by b i r s (retires n l t e) =
       turns = omega (arith, s.turns);
       limited = s.limited;
       owned = h;
-      aging = progress_in _ i.event (Slot (top b.wave)) _ _ s.aging h i.lawful;
+      aging = progress_in _ i.event (Some (top b.wave)) _ _ s.aging h i.lawful;
       rest = λ q. refl;
       still = λ q. settled-zero 2 (without (top b.wave) b.wave) q;
     })
@@ -141,10 +140,10 @@ sound-fresh limit h k =
     }
 
 -- from the bounds to the test that a call makes
-owner-lawful : (o : Owner) → OwnerIn o → lawful_owner o ≡ true
+owner-lawful : (o : Option ℕ) → OwnerIn o → lawful_owner o ≡ true
 unfolding lawful_owner
-owner-lawful Nobody h = refl
-owner-lawful (Slot s) h = lt-ltb s 16 h
+owner-lawful None h = refl
+owner-lawful (Some s) h = lt-ltb s 16 h
 
 transfer-lawful : (t : Transfer) → TransferIn t → lawful_transfer t ≡ true
 unfolding lawful_transfer

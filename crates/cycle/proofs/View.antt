@@ -1,4 +1,5 @@
 -- What a cycle can be: six cases, each with what led to it. Assumes nothing.
+use Rattle.std.specs.Prelude.{Option, Some, None}
 use Prim.Native.Nat.{ℕ, ◌+◌, ◌-◌, ◌<◌, ◌≤◌}
 use mathlib.Core.Path.{◌≡◌, refl}
 use mathlib.Core.Bool.{true, cond, not, ◌&&◌}
@@ -9,8 +10,6 @@ use Rattle.basics.proofs.Bools.{choice, and_both}
 use Rattle.slots.specs.Set.{mem, top}
 use Rattle.cycle.specs.declared.Bus.{Bus}
 use Rattle.cycle.specs.declared.Arbitration.{Arbitration}
-use Rattle.cycle.specs.declared.Owner.{Owner}
-use Rattle.cycle.specs.declared.Owner.TheVariants.{Nobody, Slot}
 use Rattle.cycle.specs.declared.Transfer.{Transfer}
 use Rattle.cycle.specs.declared.Transfer.TheVariants.{Idle, Open}
 use Rattle.cycle.specs.Arbitration.{attends, formed, parked, forming, waits, stays, leaves, starting, serving, arbitration_of}
@@ -47,10 +46,10 @@ module _ (b : Bus) (i : Input) where
   view_serving n s Idle e = view_start n s e
   view_serving n s (Open w a) e = holds_off n s w a e refl
 
-  view_forming : b.wave ≡ 0 → (t : Transfer) → b.transfer ≡ t → (o : Owner) → Case b i (forming t o b (wants_in i))
+  view_forming : b.wave ≡ 0 → (t : Transfer) → b.transfer ≡ t → (o : Option ℕ) → Case b i (forming t o b (wants_in i))
   unfolding forming
-  view_forming z Idle e Nobody = forms z refl
-  view_forming z Idle e (Slot o) = choice (Case b i) (mem o (wants_in i)) (λ m. parks o z e m refl) (λ m. forms z refl)
+  view_forming z Idle e None = forms z refl
+  view_forming z Idle e (Some o) = choice (Case b i) (mem o (wants_in i)) (λ m. parks o z e m refl) (λ m. forms z refl)
   view_forming z (Open w a) e o = forms z refl
 
   view_settling : (b.wave ≡ 0 → ⊥)

@@ -1,11 +1,9 @@
 -- Who starts in a cycle, and what becomes of the wave (document 01, "One bus cycle"). "In cycle n, 'before' means after cycle n-1":
 -- the bus b, and the transfer t where it stands alone, are before the cycle. wants and holds are the sets of slots whose nodes want and hold.
-use Rattle.std.specs.Prelude.{ℕ, ◌+◌, ◌-◌, Bool, cond, not, ◌&&◌, ◌||◌, List, get_or, eqb, ltb}
+use Rattle.std.specs.Prelude.{ℕ, ◌+◌, ◌-◌, Bool, cond, not, ◌&&◌, ◌||◌, List, get_or, eqb, ltb, Option, Some, None}
 use Rattle.slots.specs.Set.{mem, without, top}
 use Rattle.cycle.specs.declared.Bus.{Bus}
 use Rattle.cycle.specs.declared.Arbitration.{Arbitration}
-use Rattle.cycle.specs.declared.Owner.{Owner}
-use Rattle.cycle.specs.declared.Owner.TheVariants.{Nobody, Slot}
 use Rattle.cycle.specs.declared.Transfer.{Transfer}
 use Rattle.cycle.specs.declared.Transfer.TheVariants.{Idle, Open}
 
@@ -20,31 +18,31 @@ settled_at n wave = cond (eqb wave 0) 0 n
 -- "all that want form it. A wave formed now gets settling count 1."
 unfoldable pub formed : Bus → ℕ → Arbitration
 formed b wants =
-    record { wave = wants; settling = settled_at 1 wants; turn = 0; owner = b.owner; starter = Nobody }
+    record { wave = wants; settling = settled_at 1 wants; turn = 0; owner = b.owner; starter = None }
 
 -- "it is parked and starts now, and the others that want form the wave"
 unfoldable pub parked : ℕ → ℕ → Arbitration
 parked o wants =
-    record { wave = without o wants; settling = settled_at 1 (without o wants); turn = 0; owner = Slot o; starter = Slot o }
+    record { wave = without o wants; settling = settled_at 1 (without o wants); turn = 0; owner = Some o; starter = Some o }
 
 -- "Wave empty before: if the transfer was idle and the owner wants the bus, it is parked .. Otherwise all that want form it."
-unfoldable pub forming : Transfer → Owner → Bus → ℕ → Arbitration
-forming Idle (Slot o) b wants = cond (mem o wants) (parked o wants) (formed b wants)
-forming Idle Nobody b wants = formed b wants
+unfoldable pub forming : Transfer → Option ℕ → Bus → ℕ → Arbitration
+forming Idle (Some o) b wants = cond (mem o wants) (parked o wants) (formed b wants)
+forming Idle None b wants = formed b wants
 forming (Open owed age) o b wants = formed b wants
 
 -- nobody starts, and the settling count is n
 abbrev pub waits : Bus → ℕ → Arbitration
-waits b n = record { wave = b.wave; settling = n; turn = b.turn; owner = b.owner; starter = Nobody }
+waits b n = record { wave = b.wave; settling = n; turn = b.turn; owner = b.owner; starter = None }
 
 -- "the highest member starts and becomes owner. It stays a member": its turn is counted up by this START
 abbrev pub stays : Bus → ℕ → Arbitration
-stays b h = record { wave = b.wave; settling = 2; turn = b.turn + 1; owner = Slot h; starter = Slot h }
+stays b h = record { wave = b.wave; settling = 2; turn = b.turn + 1; owner = Some h; starter = Some h }
 
 -- "else it leaves now and the turn is 0. If members remain, the settling count is 2, else 0."
 unfoldable pub leaves : Bus → ℕ → Arbitration
 leaves b h =
-    record { wave = without h b.wave; settling = settled_at 2 (without h b.wave); turn = 0; owner = Slot h; starter = Slot h }
+    record { wave = without h b.wave; settling = settled_at 2 (without h b.wave); turn = 0; owner = Some h; starter = Some h }
 
 -- "It stays a member only if it holds, the START isn't an attention cycle and its turn is still below the limit with this START counted"
 unfoldable pub starting : Bus → ℕ → ℕ → ℕ → List ℕ → Arbitration

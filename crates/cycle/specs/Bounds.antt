@@ -2,15 +2,12 @@
 -- and a transfer that is idle or open with its words owed (1 to 16) and age (0 to 255). With an empty wave the settling count and the turn
 -- are 0." Refusal 5: "a state .. outside the bounds below". Refusal 3: "hold limit not 1 to 16, a node's words not 0, 1, 2, 4, 8, 16".
 -- A wave of sixteen slots and an age of 0 to 255 are what their types u16 and u8 hold, so these two are not asked again.
-use Rattle.std.specs.Prelude.{ℕ, zero, suc, Bool, true, cond, not, ◌&&◌, ◌||◌, List, get_or, eqb, ltb, leb}
-use Rattle.basics.specs.Answers.{Answer, accepted, refused}
+use Rattle.std.specs.Prelude.{ℕ, zero, suc, Bool, true, cond, not, ◌&&◌, ◌||◌, List, get_or, eqb, ltb, leb, Option, Some, None, Result}
+use Rattle.basics.specs.declared.refusal.Refusal.{Refusal}
+use Rattle.basics.specs.Answers.{Answer, accepted, refused, answered}
 use Rattle.cycle.specs.declared.Bus.{Bus}
-use Rattle.cycle.specs.declared.Owner.{Owner}
-use Rattle.cycle.specs.declared.Owner.TheVariants.{Nobody, Slot}
 use Rattle.cycle.specs.declared.Transfer.{Transfer}
 use Rattle.cycle.specs.declared.Transfer.TheVariants.{Idle, Open}
-use Rattle.cycle.specs.declared.Fresh.{Fresh}
-use Rattle.cycle.specs.declared.Fresh.TheVariants.{Made, UnlawfulLimit}
 use Rattle.basics.specs.Numbers.{slot_count, lawful_limit}
 use Rattle.cycle.specs.State.{fresh}
 
@@ -19,9 +16,9 @@ unfoldable pub lawful_counts : ℕ → ℕ → ℕ → Bool
 lawful_counts limit settling turn = lawful_limit limit && leb settling 2 && ltb turn limit
 
 -- "owner or none"
-unfoldable pub lawful_owner : Owner → Bool
-lawful_owner Nobody = true
-lawful_owner (Slot s) = ltb s slot_count
+unfoldable pub lawful_owner : Option ℕ → Bool
+lawful_owner None = true
+lawful_owner (Some s) = ltb s slot_count
 
 -- "idle or open with its words owed (1 to 16)"
 unfoldable pub lawful_transfer : Transfer → Bool
@@ -57,6 +54,5 @@ unfoldable pub fresh_of : ℕ → Answer Bus
 fresh_of limit = cond (lawful_limit limit) (accepted (fresh limit)) (refused 3 (fresh 0))
 
 -- document 01's number and values for each case of the constructor's answer
-abbrev pub fresh_answer : Fresh → Answer Bus
-fresh_answer (Made b) = accepted b
-fresh_answer UnlawfulLimit = refused 3 (fresh 0)
+abbrev pub fresh_answer : Result Bus Refusal → Answer Bus
+fresh_answer result = answered (fresh 0) result

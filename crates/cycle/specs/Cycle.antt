@@ -1,27 +1,24 @@
 -- One bus cycle, and a call of the step. Document 01: "RQST is active exactly if the wave is not empty after the cycle. The answer gives
 -- RQST, START, ACK, starter, status (none unless a transfer ends) and note." "A refusal returns its number, hands back any state
 -- unchanged, gives 0 for every other value and writes nothing."
-use Rattle.std.specs.Prelude.{ℕ, Bool, true, false, cond, not, List, eqb}
-use Rattle.basics.specs.Answers.{Answer, accepted, refused}
+use Rattle.std.specs.Prelude.{ℕ, Bool, true, false, cond, not, List, eqb, Option, Some, None, Result}
+use Rattle.basics.specs.declared.refusal.Refusal.{Refusal}
+use Rattle.basics.specs.Answers.{Answer, accepted, refused, answered}
 use Rattle.cycle.specs.declared.Bus.{Bus}
 use Rattle.cycle.specs.declared.Arbitration.{Arbitration}
 use Rattle.cycle.specs.declared.Progress.{Progress}
 use Rattle.cycle.specs.declared.Reply.{Reply}
 use Rattle.cycle.specs.declared.Moved.{Moved}
-use Rattle.cycle.specs.declared.Stepped.{Stepped}
-use Rattle.cycle.specs.declared.Stepped.TheVariants.{Accepted, OutOfBounds, NotSixteen, UnlawfulWords}
 use Rattle.cycle.specs.declared.Event.{Event}
-use Rattle.cycle.specs.declared.Owner.{Owner}
-use Rattle.cycle.specs.declared.Owner.TheVariants.{Nobody, Slot}
 use Rattle.cycle.specs.State.{fresh, silent}
 use Rattle.cycle.specs.Bounds.{in_bounds, lawful_words}
 use Rattle.cycle.specs.Arbitration.{arbitration_of}
 use Rattle.cycle.specs.Transfers.{progress_of}
 
 -- START is active exactly if somebody starts
-abbrev pub starts_of : Owner → Bool
-starts_of Nobody = false
-starts_of (Slot s) = true
+abbrev pub starts_of : Option ℕ → Bool
+starts_of None = false
+starts_of (Some s) = true
 
 -- the state after a cycle in which arbitration comes to a and the transfer to p; the hold limit stays
 unfoldable pub state_by : Bus → Arbitration → Progress → Bus
@@ -75,9 +72,6 @@ step_of b reset e wants holds words =
     (refused 3 (unmoved b)))
     (refused 5 (unmoved b))
 
--- document 01's number and values for each case of the step's answer
-abbrev pub answer_of : Stepped → Answer Moved
-answer_of (Accepted m) = accepted m
-answer_of (OutOfBounds b) = refused 5 (unmoved b)
-answer_of (NotSixteen b) = refused 1 (unmoved b)
-answer_of (UnlawfulWords b) = refused 3 (unmoved b)
+-- document 01's number and values for each case of the step's answer on the state b
+abbrev pub answer_of : Bus → Result Moved Refusal → Answer Moved
+answer_of b result = answered (unmoved b) result

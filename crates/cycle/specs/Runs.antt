@@ -1,13 +1,11 @@
 -- Runs of the bus: cycles one after another, none of them a reset. Document 01: "Demand 3 speaks of the cycle rules above; a refused call is
 -- no cycle." So an input of a run is any slave event and any table of sixteen nodes whose words are lawful: any requests, holds and slave
 -- answers.
-use Rattle.std.specs.Prelude.{ℕ, suc, ◌<◌, ◌≤◌, ◌≡◌, Bool, true, false, cond, List, [], ◌∷◌, length, get_or, eqb}
+use Rattle.std.specs.Prelude.{ℕ, suc, ◌<◌, ◌≤◌, ◌≡◌, Bool, true, false, cond, List, [], ◌∷◌, length, get_or, eqb, Option, Some, None}
 use Rattle.slots.specs.Set.{mem}
 use Rattle.cycle.specs.declared.Bus.{Bus}
 use Rattle.cycle.specs.declared.Event.{Event}
 use Rattle.cycle.specs.declared.Node.{Node}
-use Rattle.cycle.specs.declared.Owner.{Owner}
-use Rattle.cycle.specs.declared.Owner.TheVariants.{Nobody, Slot}
 use Rattle.cycle.specs.declared.Reply.{Reply}
 use Rattle.cycle.specs.declared.Moved.{Moved}
 use Rattle.cycle.specs.Bounds.{lawful_words}
@@ -44,16 +42,16 @@ after b [] = b
 after b (i ∷ is) = after (next b i) is
 
 -- the slot whose START the reply's lines show: START is active, and the starter is this slot
-abbrev pub start_by : Reply → Owner
-start_by r = cond r.start r.starter Nobody
+abbrev pub start_by : Reply → Option ℕ
+start_by r = cond r.start r.starter None
 
-unfoldable pub start_in : Bus → Input → Owner
+unfoldable pub start_in : Bus → Input → Option ℕ
 start_in b i = start_by (cycle_in b i).reply
 
 -- the slot that starts, if one does, before the later ones
-unfoldable pub and_then : Owner → List ℕ → List ℕ
-and_then Nobody l = l
-and_then (Slot s) l = s ∷ l
+unfoldable pub and_then : Option ℕ → List ℕ → List ℕ
+and_then None l = l
+and_then (Some s) l = s ∷ l
 
 -- who starts in these cycles, in their order
 unfoldable pub starters : Bus → List Input → List ℕ
@@ -109,9 +107,9 @@ abbrev pub Still : Bool → Type 0 → Type 0
 Still true X = Unit {0}
 Still false X = X
 
-abbrev pub is_slot : ℕ → Owner → Bool
-is_slot m Nobody = false
-is_slot m (Slot s) = eqb s m
+abbrev pub is_slot : ℕ → Option ℕ → Bool
+is_slot m None = false
+is_slot m (Some s) = eqb s m
 
 -- node m wants the bus in each of these cycles, up to the one in which it starts
 abbrev pub Asks : ℕ → Bus → List Input → Type 0

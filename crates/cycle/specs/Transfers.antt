@@ -4,19 +4,16 @@
 -- noted as stray and drives no line." Document 02, wish 5, changes what a strobe does that takes an owed word: "The age returns to 0 with each
 -- strobe that takes an owed word .. and a strobe in the 256th cycle is taken before the timer fires. A finish still wins over both. Strobes
 -- that are extra restart nothing."
-use Rattle.std.specs.Prelude.{ℕ, ◌+◌, ◌-◌, Bool, true, false, cond, List, get_or, eqb, ltb}
+use Rattle.std.specs.Prelude.{ℕ, ◌+◌, ◌-◌, Bool, true, false, cond, List, get_or, eqb, ltb, Option, Some, None}
 use Rattle.codes.specs.declared.Status.{Status}
 use Rattle.codes.specs.declared.Status.TheVariants.{Success, Error, Timeout, Again}
 use Rattle.cycle.specs.declared.Progress.{Progress}
-use Rattle.cycle.specs.declared.Owner.{Owner}
-use Rattle.cycle.specs.declared.Owner.TheVariants.{Nobody, Slot}
 use Rattle.cycle.specs.declared.Transfer.{Transfer}
 use Rattle.cycle.specs.declared.Transfer.TheVariants.{Idle, Open}
 use Rattle.cycle.specs.declared.Event.{Event}
 use Rattle.cycle.specs.declared.Event.TheVariants.{Nothing, Strobe, Finish}
 use Rattle.cycle.specs.declared.Note.{Note}
 use Rattle.cycle.specs.declared.Note.TheVariants.{Clear, Short, Extra, Stray}
-use Rattle.cycle.specs.declared.Ending.TheVariants.{Unended, Ended}
 use Rattle.basics.specs.Numbers.{watchdog}
 use Rattle.cycle.specs.Arbitration.{attends}
 
@@ -29,14 +26,14 @@ abbrev pub expires : ℕ → Bool
 expires age = eqb (age_of age) watchdog
 
 -- "makes an attention cycle; the transfer stays idle. Any other START opens a transfer at age 0."
-unfoldable pub opened : Owner → ℕ → List ℕ → Transfer
-opened Nobody wants words = Idle
-opened (Slot s) wants words = cond (attends s wants words) Idle (Open (get_or words s 0) 0)
+unfoldable pub opened : Option ℕ → ℕ → List ℕ → Transfer
+opened None wants words = Idle
+opened (Some s) wants words = cond (attends s wants words) Idle (Open (get_or words s 0) 0)
 
 -- START with ACK is an attention cycle
-unfoldable pub attention : Owner → ℕ → List ℕ → Bool
-attention Nobody wants words = false
-attention (Slot s) wants words = attends s wants words
+unfoldable pub attention : Option ℕ → ℕ → List ℕ → Bool
+attention None wants words = false
+attention (Some s) wants words = attends s wants words
 
 -- "An event with nothing open before is noted as stray"
 abbrev pub stray_of : Event → Note
@@ -53,15 +50,15 @@ short_of Again owed = Clear
 
 -- "A finish gives ACK and idles it"
 abbrev pub finished : Status → ℕ → Progress
-finished s owed = record { transfer = Idle; ack = true; status = Ended s; note = short_of s owed }
+finished s owed = record { transfer = Idle; ack = true; status = Some s; note = short_of s owed }
 
 -- "the watchdog gives ACK with timeout"
 abbrev pub timed_out : Progress
-timed_out = record { transfer = Idle; ack = true; status = Ended Timeout; note = Clear }
+timed_out = record { transfer = Idle; ack = true; status = Some Timeout; note = Clear }
 
 -- it goes on, a cycle older
 abbrev pub aged : ℕ → ℕ → Note → Progress
-aged owed age note = record { transfer = Open owed (age_of age); ack = false; status = Unended; note = note }
+aged owed age note = record { transfer = Open owed (age_of age); ack = false; status = None; note = note }
 
 -- without a finish, and with no word taken: "At age 256 .. the watchdog gives ACK with timeout", with no note; else it goes on
 unfoldable pub watched : ℕ → ℕ → Note → Progress
@@ -69,7 +66,7 @@ watched owed age note = cond (expires age) timed_out (aged owed age note)
 
 -- "a strobe takes one owed word", and "The age returns to 0"
 abbrev pub taken : ℕ → Progress
-taken owed = record { transfer = Open (owed - 1) 0; ack = false; status = Unended; note = Clear }
+taken owed = record { transfer = Open (owed - 1) 0; ack = false; status = None; note = Clear }
 
 -- "a strobe takes one owed word if more than one is owed", at whatever age, "else it is noted as extra"
 unfoldable pub struck : ℕ → ℕ → Progress
@@ -82,7 +79,7 @@ going_on Strobe owed age = struck owed age
 going_on Nothing owed age = watched owed age Clear
 
 -- the transfer t before, the event e and the starter s of the cycle
-unfoldable pub progress_of : Transfer → Event → Owner → ℕ → List ℕ → Progress
+unfoldable pub progress_of : Transfer → Event → Option ℕ → ℕ → List ℕ → Progress
 progress_of Idle e s wants words =
-    record { transfer = opened s wants words; ack = attention s wants words; status = Unended; note = stray_of e }
+    record { transfer = opened s wants words; ack = attention s wants words; status = None; note = stray_of e }
 progress_of (Open owed age) e s wants words = going_on e owed age

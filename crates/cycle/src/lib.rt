@@ -5,14 +5,8 @@
 ghost use Rattle.std.specs.Prelude.{◌≡◌};
 ghost use Rattle.cycle.specs.Bounds.{fresh_of, fresh_answer};
 
+use basics::Refusal;
 use codes::Status;
-
-// The master that started last, or none since the reset; and the starter of a cycle, or none.
-#[derive(Clone, Copy)]
-pub enum Owner {
-    Nobody,
-    Slot(u8),
-}
 
 // Words owed 1 to 16, age 0 to 255.
 #[derive(Clone, Copy)]
@@ -21,13 +15,14 @@ pub enum Transfer {
     Open { owed: u8, age: u8 },
 }
 
-// The wave is a set of slots; the settling count is 0 to 2; the turn, the STARTs in this turn, stays below the hold limit.
+// The wave is a set of slots; the settling count is 0 to 2; the turn, the STARTs in this turn, stays below the hold limit. The owner is the slot of
+// the master that started last, or none since the reset.
 #[derive(Clone, Copy)]
 pub struct Bus {
     pub wave: u16,
     pub settling: u8,
     pub turn: u8,
-    pub owner: Owner,
+    pub owner: Option<u8>,
     pub limit: u8,
     pub transfer: Transfer,
 }
@@ -64,21 +59,14 @@ pub enum Note {
     Stray,
 }
 
-// The status with which a transfer ends; none unless one does.
-#[derive(Clone, Copy)]
-pub enum Ending {
-    Unended,
-    Ended(Status),
-}
-
-// What a cycle answers.
+// What a cycle answers: the lines, the slot that starts in it, if one does, and the status with which a transfer ends, if one does.
 #[derive(Clone, Copy)]
 pub struct Reply {
     pub rqst: bool,
     pub start: bool,
     pub ack: bool,
-    pub starter: Owner,
-    pub status: Ending,
+    pub starter: Option<u8>,
+    pub status: Option<Status>,
     pub note: Note,
 }
 
@@ -88,8 +76,8 @@ pub struct Arbitration {
     pub wave: u16,
     pub settling: u8,
     pub turn: u8,
-    pub owner: Owner,
-    pub starter: Owner,
+    pub owner: Option<u8>,
+    pub starter: Option<u8>,
 }
 
 // What a cycle makes of the transfer.
@@ -97,7 +85,7 @@ pub struct Arbitration {
 pub struct Progress {
     pub transfer: Transfer,
     pub ack: bool,
-    pub status: Ending,
+    pub status: Option<Status>,
     pub note: Note,
 }
 
@@ -106,22 +94,6 @@ pub struct Progress {
 pub struct Moved {
     pub bus: Bus,
     pub reply: Reply,
-}
-
-// A call of the step. A refusal hands the state back unchanged: 5 (out of bounds), 1 (the table is not 16 long), 3 (words).
-#[derive(Clone, Copy)]
-pub enum Stepped {
-    Accepted(Moved),
-    OutOfBounds(Bus),
-    NotSixteen(Bus),
-    UnlawfulWords(Bus),
-}
-
-// A fresh bus, or refusal 3.
-#[derive(Clone, Copy)]
-pub enum Fresh {
-    Made(Bus),
-    UnlawfulLimit,
 }
 
 impl Bus {
@@ -134,20 +106,21 @@ impl Bus {
     pub const WORDS_MOST: u8 = 16;
 
     // Empty, idle and without an owner.
-    pub fn fresh(limit: u8) -> Fresh
+    #[tactic(auto, unfolding(crate::specs::Bounds::fresh_of))]
+    pub fn fresh(limit: u8) -> Result<Bus, Refusal>
         ensures { fresh_answer result ≡ fresh_of limit }
     {
         if (1 <= limit) & (limit <= Bus::LIMIT_MOST) {
-            Fresh::Made(Bus {
+            Ok(Bus {
                 wave: 0,
                 settling: 0,
                 turn: 0,
-                owner: Owner::Nobody,
-                limit: limit,
+                owner: None,
+                limit,
                 transfer: Transfer::Idle,
             })
         } else {
-            Fresh::UnlawfulLimit
+            Err(Refusal::Value)
         }
     }
 }
