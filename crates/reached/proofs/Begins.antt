@@ -1,4 +1,5 @@
 -- How the runs begin: slot m, parked after an attention cycle, starts in the very cycle in which the other fifteen form a wave. Assumes nothing.
+use Rattle.std.specs.Prelude.{Option, Some}
 use Prim.Native.Nat.{ℕ, zero, suc, ◌+◌, ◌-◌, ◌*◌, ◌<◌, ◌≤◌}
 use mathlib.Core.Path.{◌≡◌, refl, sym, ap, subst, ◌∙◌}
 use mathlib.Core.Bool.{false}
@@ -14,8 +15,6 @@ use Rattle.slots.proofs.MemberLaws.{without_is, mem_gone, mem-kept}
 use Rattle.slots.proofs.SizeLaws.{card_less}
 use Rattle.cycle.specs.declared.Bus.{Bus}
 use Rattle.cycle.specs.declared.Arbitration.{Arbitration}
-use Rattle.cycle.specs.declared.Owner.{Owner}
-use Rattle.cycle.specs.declared.Owner.TheVariants.{Slot}
 use Rattle.cycle.specs.declared.Transfer.TheVariants.{Idle}
 use Rattle.cycle.specs.State.{fresh}
 use Rattle.cycle.specs.Arbitration.{attends, formed, parked, forming, leaves, starting, serving, arbitration_of}
@@ -47,7 +46,7 @@ abbrev pub attention : (m : ℕ) → m < 16 → List Input
 attention m l = replicate 3 (alone_in m l)
 
 abbrev pub parked_at : ℕ → ℕ → Bus
-parked_at limit m = record { wave = 0; settling = 0; turn = 0; owner = Slot m; limit = limit; transfer = Idle }
+parked_at limit m = record { wave = 0; settling = 0; turn = 0; owner = Some m; limit = limit; transfer = Idle }
 
 -- behind it m is the owner, no wave is there and nothing is open: it will be parked if it asks again
 pub attended : (limit m : ℕ) (l : m < 16) → after (fresh limit) (attention m l) ≡ parked_at limit m
@@ -59,9 +58,9 @@ attended limit m l = below_at 16 (λ m. (l : m < 16) → after (fresh limit) (at
         (λ l. refl, (λ l. refl, (λ l. refl, (λ l. refl, (λ l. refl, (λ l. refl, (λ l. refl, (λ l. refl, (λ l. refl, (λ l. refl, (λ l. refl, (λ l. refl, (λ l. refl, (λ l. refl, (λ l. refl, (λ l. refl, tt))))))))))))))))
 
 -- o is who starts in the next cycle, and b the bus after it: m starts, all the others are in the wave, and its first START is as far as can be
-pub record Begun (limit m : ℕ) (o : Owner) (b : Bus) : Type 0 where
+pub record Begun (limit m : ℕ) (o : Option ℕ) (b : Bus) : Type 0 where
   pub sound : Sound b
-  pub starts : o ≡ Slot m
+  pub starts : o ≡ Some m
   pub wave : b.wave ≡ without m everyone
   pub turn : b.turn ≡ 0
   pub limited : b.limit ≡ limit
@@ -91,7 +90,7 @@ begins limit m h k l =
     begins_by limit m l _ (sound-after (attention m l) (fresh limit) (sound-fresh limit h k)) (attended limit m l)
 
 -- ---- what is to come from there
-module _ {limit m : ℕ} (l : m < 16) {o : Owner} {b : Bus} (r : Begun limit m o b) where
+module _ {limit m : ℕ} (l : m < 16) {o : Option ℕ} {b : Bus} (r : Begun limit m o b) where
   pub members : b.wave ≡ 0 → ⊥
   members z = omega (arith, r.wave, without_is m everyone (all_in m l), lib.Pow.pow_mono {i = m} {j = 15} (omega arith))
 

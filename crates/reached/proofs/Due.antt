@@ -1,4 +1,5 @@
 -- What bounds slot m's wait in demand 3, where the slowest run stands, and what one cycle of it makes of both. Assumes nothing.
+use Rattle.std.specs.Prelude.{Option, Some}
 use Prim.Native.Nat.{ℕ, zero, suc, ◌+◌, ◌-◌, ◌*◌, ◌<◌, ◌≤◌}
 use mathlib.Core.Path.{◌≡◌, refl, sym, ap, ◌∙◌}
 use mathlib.Core.Bool.{true, false, cond}
@@ -9,8 +10,6 @@ use Rattle.basics.specs.Lines.{one}
 use Rattle.basics.proofs.Bools.{not-true}
 use Rattle.slots.specs.Set.{mem}
 use Rattle.cycle.specs.declared.Bus.{Bus}
-use Rattle.cycle.specs.declared.Owner.{Owner}
-use Rattle.cycle.specs.declared.Owner.TheVariants.{Slot}
 use Rattle.cycle.specs.declared.Transfer.{Transfer}
 use Rattle.cycle.specs.declared.Transfer.TheVariants.{Idle, Open}
 use Rattle.cycle.specs.Cycle.{starts_of}
@@ -35,10 +34,10 @@ late m w = cond (mem m w) 0 (parkable m)
 pub data Stage (m : ℕ) (b : Bus) : Type 0 where
   joined : mem m b.wave ≡ true → Stage m b
   outside : (b.wave ≡ 0 → ⊥) → mem m b.wave ≡ false → (0 < m → mem 0 b.wave ≡ true) → Stage m b
-  between : b.wave ≡ 0 → (m ≡ 0 → b.transfer ≡ Open 16 0) → (0 < m → (b.transfer ≡ Idle) × (b.owner ≡ Slot 0)) → Stage m b
+  between : b.wave ≡ 0 → (m ≡ 0 → b.transfer ≡ Open 16 0) → (0 < m → (b.transfer ≡ Idle) × (b.owner ≡ Some 0)) → Stage m b
 
 -- from b to b' in a cycle in which o starts, who isn't m: m is due a cycle sooner, and sees a START less if there was one
-pub record Falls (m : ℕ) (b : Bus) (o : Owner) (b' : Bus) : Type 0 where
+pub record Falls (m : ℕ) (b : Bus) (o : Option ℕ) (b' : Bus) : Type 0 where
   pub onward : Stage m b'
   pub nearer : suc (due m b') ≡ due m b
   pub fewer : share m b ≡ one (starts_of o) + share m b'

@@ -1,4 +1,5 @@
 -- In each cycle of the slowest run slot m's wait falls by one cycle, and by no more, until m starts. Assumes nothing.
+use Rattle.std.specs.Prelude.{Some}
 use Prim.Native.Nat.{ℕ, suc, ◌+◌, ◌-◌, ◌<◌, ◌≤◌}
 use mathlib.Core.Path.{◌≡◌, refl, sym, ap, subst, ◌∙◌}
 use mathlib.Core.Bool.{Bool, true, false, cond, true≢false}
@@ -11,7 +12,6 @@ use Rattle.slots.specs.Set.{mem, without, top}
 use Rattle.slots.proofs.MemberLaws.{mem-kept}
 use Rattle.cycle.specs.declared.Bus.{Bus}
 use Rattle.cycle.specs.declared.Arbitration.{Arbitration}
-use Rattle.cycle.specs.declared.Owner.TheVariants.{Slot}
 use Rattle.cycle.specs.declared.Transfer.TheVariants.{Idle, Open}
 use Rattle.cycle.specs.Arbitration.{formed, parked, waits, stays, leaves}
 use Rattle.cycle.specs.Cycle.{state_by, reply_by, moved_by, cycle_by, cycle_of}
@@ -59,13 +59,13 @@ module _ (m : ℕ) (b : Bus) (s : Sound b) (n : b.wave ≡ 0 → ⊥) where
   top-other l h (between z f g') g q = n z
 
   module _ (h : wait b ≡ 0) (g : Stage m b) (d : lead ≡ m → ⊥) where
-    opens : (a : Arbitration) → a.starter ≡ Slot lead → closes b ≡ false → (next_by b (slow_in b) a).transfer ≡ Open 16 0
+    opens : (a : Arbitration) → a.starter ≡ Some lead → closes b ≡ false → (next_by b (slow_in b) a).transfer ≡ Open 16 0
     opens a e c = opening b a lead (highest b.wave s.slots n).small (idle_at b s h) e c
 
     -- it starts, and the wave goes on
     starting_on : (b' : Bus) → (b'.wave ≡ 0 → ⊥) → b'.settling ≤ 2 → b'.transfer ≡ Open 16 0
         → mem m b'.wave ≡ mem m b.wave → suc (turns_of m b'.limit b'.wave b'.turn) ≡ turns_of m b.limit b.wave b.turn
-        → Stage m b' → Falls m b (Slot lead) b'
+        → Stage m b' → Falls m b (Some lead) b'
     starting_on b' n' l t e f g' =
         let same : late m b'.wave ≡ late m b.wave = ap (λ (c : Bool). cond c 0 (parkable m)) e in
         record {
@@ -136,7 +136,7 @@ module _ (m : ℕ) (b : Bus) (s : Sound b) (n : b.wave ≡ 0 → ⊥) where
               let out : late m b.wave ≡ parkable m = rw e in
               let left = turns-empty m b.limit rest 0 z refl in
               record {
-                onward = between z opened (λ p. (idle p, ap Slot (zeroth z (f p))));
+                onward = between z opened (λ p. (idle p, ap Some (zeroth z (f p))));
                 nearer = omega (arith, due_wave m b n, due_empty m then sound_then z, vacant_between m then.transfer opened idle, out, h, one_fewer, left);
                 fewer = omega (arith, share_is m b, share-empty m then sound_then z, out, one_fewer, left);
                 another = ne_eqb lead m d;

@@ -1,4 +1,5 @@
 -- The slowest run, cycle after cycle. Assumes nothing.
+use Rattle.std.specs.Prelude.{Option, Some, None}
 use Prim.Native.Nat.{ℕ, zero, suc, ◌+◌, ◌-◌, ◌<◌, ◌≤◌}
 use mathlib.Core.Path.{◌≡◌, refl, sym, subst, ◌∙◌}
 use mathlib.Core.Bool.{false}
@@ -8,8 +9,6 @@ use borrow.Author.Tests.{ne_eqb}
 use Rattle.basics.specs.Lines.{one}
 use Rattle.cycle.specs.declared.Bus.{Bus}
 use Rattle.cycle.specs.declared.Arbitration.{Arbitration}
-use Rattle.cycle.specs.declared.Owner.{Owner}
-use Rattle.cycle.specs.declared.Owner.TheVariants.{Nobody, Slot}
 use Rattle.cycle.specs.Arbitration.{waits}
 use Rattle.cycle.specs.Cycle.{starts_of, state_by, reply_by, moved_by, cycle_by, cycle_of}
 use Rattle.cycle.specs.Waits.{pause_most}
@@ -25,15 +24,15 @@ use Rattle.reached.proofs.Falls.{falls}
 
 -- a START of another is one ahead of m's own, and none of m's
 module _ (m : ℕ) (l : List ℕ) where
-  one-ahead : (o : Owner) → is_slot m o ≡ false → ahead m (and_then o l) ≡ one (starts_of o) + ahead m l
+  one-ahead : (o : Option ℕ) → is_slot m o ≡ false → ahead m (and_then o l) ≡ one (starts_of o) + ahead m l
   unfolding and_then ahead
-  one-ahead Nobody e = omega arith
-  one-ahead (Slot s) e = rw e (omega arith)
+  one-ahead None e = omega arith
+  one-ahead (Some s) e = rw e (omega arith)
 
-  none-own : (o : Owner) → is_slot m o ≡ false → count m (and_then o l) ≡ count m l
+  none-own : (o : Option ℕ) → is_slot m o ≡ false → count m (and_then o l) ≡ count m l
   unfolding and_then count
-  none-own Nobody e = refl
-  none-own (Slot s) e = rw e
+  none-own None e = refl
+  none-own (Some s) e = rw e
 
 -- in as many cycles as m is due in, it doesn't start, and sees all the STARTs of others that it may
 pub waits_out : (m : ℕ) → m < 16 → (n : ℕ) (b : Bus) → Sound b → Stage m b → n ≡ due m b

@@ -1,5 +1,6 @@
 -- The slowest run: all ask and hold, with sixteen words, and the slave strobes in the watchdog's last cycle, so that each START comes as late as
 -- it can. Assumes nothing.
+use Rattle.std.specs.Prelude.{Some, None}
 use Prim.Native.Nat.{ℕ, zero, suc, ◌+◌, ◌-◌, ◌*◌, ◌<◌, ◌≤◌}
 use mathlib.Core.Path.{◌≡◌, refl, sym, ap, ◌∙◌}
 use mathlib.Core.Bool.{Bool, true, false, cond, not, ◌&&◌, and-false}
@@ -15,7 +16,6 @@ use Rattle.cycle.specs.declared.Bus.{Bus}
 use Rattle.cycle.specs.declared.Arbitration.{Arbitration}
 use Rattle.cycle.specs.declared.Event.{Event}
 use Rattle.cycle.specs.declared.Event.TheVariants.{Nothing, Strobe}
-use Rattle.cycle.specs.declared.Owner.TheVariants.{Nobody, Slot}
 use Rattle.cycle.specs.declared.Transfer.{Transfer}
 use Rattle.cycle.specs.declared.Transfer.TheVariants.{Idle, Open}
 use Rattle.cycle.specs.declared.Note.TheVariants.{Clear}
@@ -72,7 +72,7 @@ slow_asks m l (suc n) b = (full-asks _ _ _ m l, go (is_slot m (start_in b (slow_
 
 -- ---- the transfer
 -- with no START an open transfer comes one cycle nearer its end, and no more
-dawdles : (t : Transfer) (wants : ℕ) (words : List ℕ) → TransferIn t → left (progress_of t (dawdling t) Nobody wants words).transfer ≡ left t - 1
+dawdles : (t : Transfer) (wants : ℕ) (words : List ℕ) → TransferIn t → left (progress_of t (dawdling t) None wants words).transfer ≡ left t - 1
 unfolding progress_of opened dawdling going_on struck watched left
 dawdles Idle wants words h = omega arith
 dawdles (Open w a) wants words h = by-test (expires a) (λ e. rw e (fires e)) (λ e. rw e (passes e))
@@ -86,7 +86,7 @@ dawdles (Open w a) wants words h = by-test (expires a) (λ e. rw e (fires e)) (�
         by-test (ltb 1 w) (λ f. rw f (omega (arith, ltb-true 1 w f))) (λ f. rw (f, e) (omega (arith, ltb-false 1 w f)))
 
 -- with no START
-pub elapses : (b : Bus) (a : Arbitration) → Sound b → a.starter ≡ Nobody → left (next_by b (slow_in b) a).transfer ≡ left b.transfer - 1
+pub elapses : (b : Bus) (a : Arbitration) → Sound b → a.starter ≡ None → left (next_by b (slow_in b) a).transfer ≡ left b.transfer - 1
 unfolding next_by cycle_by moved_by state_by slow_in full
 elapses b a s e = rw e (dawdles b.transfer (wants_in (slow_in b)) (words_in (slow_in b)) s.aging)
 
@@ -131,7 +131,7 @@ module _ (b : Bus) where
     attends_slow = full-attends _ _ _ s l ∙ choice (λ n. eqb n 0 ≡ closes b) (closes b) (λ e. sym e) (λ e. sym e)
 
 -- a START of s where arbitration comes to a
-module _ (b : Bus) (a : Arbitration) (s : ℕ) (l : s < 16) (t : b.transfer ≡ Idle) (e : a.starter ≡ Slot s) where
+module _ (b : Bus) (a : Arbitration) (s : ℕ) (l : s < 16) (t : b.transfer ≡ Idle) (e : a.starter ≡ Some s) where
   started : (next_by b (slow_in b) a).transfer ≡ cond (closes b) Idle (Open (get_or (words_in (slow_in b)) s 0) 0)
   unfolding next_by cycle_by moved_by state_by progress_of opened
   started =
@@ -183,7 +183,7 @@ module _ (b : Bus) (s : Sound b) (n : b.wave ≡ 0 → ⊥) where
 
 -- ---- an empty wave
 module _ (b : Bus) (z : b.wave ≡ 0) where
-  parks_by : (i : Input) (o : ℕ) → b.transfer ≡ Idle → b.owner ≡ Slot o → mem o (wants_in i) ≡ true → arb b i ≡ parked o (wants_in i)
+  parks_by : (i : Input) (o : ℕ) → b.transfer ≡ Idle → b.owner ≡ Some o → mem o (wants_in i) ≡ true → arb b i ≡ parked o (wants_in i)
   unfolding arb arbitration_of forming
   parks_by i o t e h = rw (eq-eqb b.wave 0 z, t, e, h)
 
@@ -192,7 +192,7 @@ module _ (b : Bus) (z : b.wave ≡ 0) where
   forms_by i w a t = rw (eq-eqb b.wave 0 z, t)
 
   -- its owner is parked and starts, and the others form a wave
-  pub parks_now : (o : ℕ) → o < 16 → b.transfer ≡ Idle → b.owner ≡ Slot o → arb b (slow_in b) ≡ parked o everyone
+  pub parks_now : (o : ℕ) → o < 16 → b.transfer ≡ Idle → b.owner ≡ Some o → arb b (slow_in b) ≡ parked o everyone
   parks_now o l t e =
       parks_by (slow_in b) o t e (ap (mem o) (wants_slow b) ∙ all_in o l) ∙ ap (parked o) (wants_slow b)
 

@@ -1,5 +1,5 @@
 -- The checked examples of document 01 that are about the bus: what comes in, and what the bus answers in each cycle.
-use Rattle.std.specs.Prelude.{ℕ, ◌≡◌, refl, Bool, true, false, List, [], ◌∷◌, ◌++◌, length, set, replicate}
+use Rattle.std.specs.Prelude.{ℕ, ◌≡◌, refl, Bool, true, false, List, [], ◌∷◌, ◌++◌, length, set, replicate, Some, None}
 use Rattle.codes.specs.declared.Status.{Status}
 use Rattle.codes.specs.declared.Status.TheVariants.{Success, Timeout}
 use Rattle.cycle.specs.declared.Bus.{Bus}
@@ -7,8 +7,6 @@ use Rattle.cycle.specs.declared.Reply.{Reply}
 use Rattle.cycle.specs.declared.Node.{Node}
 use Rattle.cycle.specs.declared.Event.{Event}
 use Rattle.cycle.specs.declared.Event.TheVariants.{Nothing, Strobe, Finish}
-use Rattle.cycle.specs.declared.Owner.TheVariants.{Nobody, Slot}
-use Rattle.cycle.specs.declared.Ending.TheVariants.{Unended, Ended}
 use Rattle.cycle.specs.declared.Note.TheVariants.{Clear, Extra, Stray}
 use Rattle.cycle.specs.Bounds.{lawful_word, lawful_below}
 use Rattle.cycle.specs.Nodes.{blank, add_of, gathered, sets_of}
@@ -42,22 +40,22 @@ two s n t o = set (single s n) t o
 -- a cycle in which nobody starts and nothing ends, the same with a stray event, and with an extra strobe; one with a START, and one with an
 -- attention cycle; and one with an ACK. The first line is RQST.
 abbrev pub quiet : Bool → Reply
-quiet rqst = record { rqst = rqst; start = false; ack = false; starter = Nobody; status = Unended; note = Clear }
+quiet rqst = record { rqst = rqst; start = false; ack = false; starter = None; status = None; note = Clear }
 
 abbrev pub stray : Bool → Reply
-stray rqst = record { rqst = rqst; start = false; ack = false; starter = Nobody; status = Unended; note = Stray }
+stray rqst = record { rqst = rqst; start = false; ack = false; starter = None; status = None; note = Stray }
 
 abbrev pub extra : Bool → Reply
-extra rqst = record { rqst = rqst; start = false; ack = false; starter = Nobody; status = Unended; note = Extra }
+extra rqst = record { rqst = rqst; start = false; ack = false; starter = None; status = None; note = Extra }
 
 abbrev pub start : Bool → ℕ → Reply
-start rqst s = record { rqst = rqst; start = true; ack = false; starter = Slot s; status = Unended; note = Clear }
+start rqst s = record { rqst = rqst; start = true; ack = false; starter = Some s; status = None; note = Clear }
 
 abbrev pub attention : Bool → ℕ → Reply
-attention rqst s = record { rqst = rqst; start = true; ack = true; starter = Slot s; status = Unended; note = Clear }
+attention rqst s = record { rqst = rqst; start = true; ack = true; starter = Some s; status = None; note = Clear }
 
 abbrev pub ended : Bool → Status → Reply
-ended rqst s = record { rqst = rqst; start = false; ack = true; starter = Nobody; status = Ended s; note = Clear }
+ended rqst s = record { rqst = rqst; start = false; ack = true; starter = None; status = Some s; note = Clear }
 
 -- an input of these examples: its words are lawful by computing
 abbrev Lawful : List Node → Type 0

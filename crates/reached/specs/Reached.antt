@@ -1,8 +1,7 @@
 -- What it means that a run reaches a number of demand 3: the number can't be smaller. Each is reached at every hold limit, and by every slot
 -- (proofs/Reached.antt).
-use Rattle.std.specs.Prelude.{ℕ, ◌+◌, ◌*◌, ◌≡◌, false, List, [], length}
+use Rattle.std.specs.Prelude.{ℕ, ◌+◌, ◌*◌, ◌≡◌, false, List, [], length, Some}
 use Rattle.slots.specs.Set.{card}
-use Rattle.cycle.specs.declared.Owner.TheVariants.{Slot}
 use Rattle.cycle.specs.State.{fresh}
 use Rattle.cycle.specs.Waits.{pause_most, others_most, cycles_most}
 use Rattle.cycle.specs.Runs.{Input, next, after, start_in, starters, over_in, count, ahead, Asks}
@@ -13,7 +12,7 @@ pub record PausesAfterStart (limit : ℕ) : Type 0 where
   pub i : Input
   pub future : List Input
   pub starter : ℕ
-  pub starts : start_in (after (fresh limit) past) i ≡ Slot starter
+  pub starts : start_in (after (fresh limit) past) i ≡ Some starter
   pub members : (next (after (fresh limit) past) i).wave ≡ 0 → ⊥
   pub long : length future + 1 ≡ pause_most
   pub none : starters (next (after (fresh limit) past) i) future ≡ []
