@@ -10,6 +10,7 @@ use lib.ListN.{take, drop, length, length-drop, length-append}
 use lib.Seq.{take-append-le, drop-append-le}
 use lib.Dec.{leb, ltb, eqb}
 use borrow.Author.Tests.{eq-eqb, ne_eqb, leb-true, ltb-true, eqb-true, eqb-false, le-leb, lt-ltb}
+use Rattle.std.specs.Prelude.{Option, Some, None}
 use Rattle.basics.specs.Lines.{one}
 use Rattle.basics.specs.Order.{unless}
 use Rattle.basics.proofs.Bools.{choice, push, cond-true, cond-false, and_both, both_and, implied}
@@ -22,8 +23,6 @@ use Rattle.rules.specs.declared.Rule.{Rule}
 use Rattle.rules.specs.declared.Progress.{Progress}
 use Rattle.rules.specs.declared.Transfer.{Transfer}
 use Rattle.rules.specs.declared.Transfer.TheVariants.{Idle, Open}
-use Rattle.rules.specs.declared.Owner.{Owner}
-use Rattle.rules.specs.declared.Owner.TheVariants.{Nobody, Slot}
 use Rattle.basics.specs.Numbers.{watchdog, lawful_limit}
 use Rattle.basics.specs.Order.{implies}
 use Rattle.codes.specs.Owed.{words_of}
@@ -199,13 +198,13 @@ sound-transfer Idle h = refl
 sound-transfer (Open w s a b) h =
     both_and _ _ (both_and _ _ (both_and _ _ (both_and _ _ (le-leb 1 w h.low) (le-leb w 16 h.high)) (lt-ltb s w h.few)) (le-leb a watchdog h.young)) (le-leb b (watchdog * s + a + 1) h.spent)
 
-owner-sound : (o : Owner) → owner_bounds o ≡ true → SoundOwner o
-owner-sound Nobody e = tt
-owner-sound (Slot s) e = leb-true s 15 e
+owner-sound : (o : Option ℕ) → owner_bounds o ≡ true → SoundOwner o
+owner-sound None e = tt
+owner-sound (Some s) e = leb-true s 15 e
 
-sound-owner : (o : Owner) → SoundOwner o → owner_bounds o ≡ true
-sound-owner Nobody h = refl
-sound-owner (Slot s) h = le-leb s 15 h
+sound-owner : (o : Option ℕ) → SoundOwner o → owner_bounds o ≡ true
+sound-owner None h = refl
+sound-owner (Some s) h = le-leb s 15 h
 
 pub judge-sound : (j : Judge) → judge_bounds j ≡ true → SoundJudge j
 unfolding judge_bounds

@@ -6,11 +6,10 @@ use mathlib.Core.Logic.{◌↔◌}
 use native.Mathlib.Omega.{arith}
 use lib.Dec.{ltb, leb, eqb}
 use borrow.Author.Tests.{ltb-true, ltb-false, lt-ltb, le-ltb, leb-true, le-leb, eqb-true, eq-eqb, eqb-false, not-true}
+use Rattle.std.specs.Prelude.{Option, Some, None}
 use Rattle.basics.specs.Lines.{one}
 use Rattle.basics.proofs.Bools.{choice, cond-true, cond-false, and_both, by-test, not-true as refuted, implied, implying}
 use Rattle.rules.specs.declared.Wave.{Wave}
-use Rattle.rules.specs.declared.Owner.{Owner}
-use Rattle.rules.specs.declared.Owner.TheVariants.{Nobody, Slot}
 use Rattle.basics.specs.Order.{implies}
 use Rattle.rules.specs.Rules.{rule8a, rule8b, rule8c, rule9, rule10, rule11}
 use Rattle.rules.specs.State.{is_owned, asked_of, twice_of, capped, wave_of, fresh_wave}
@@ -235,13 +234,13 @@ ride_turn r i b s a t h q nr g st le =
 
 -- ---- the owner that the judge keeps
 -- nobody, there being no START of a wave since the reset; or the slot that the last one's ARB shows
-abbrev pub OwnedBy : Lines → ℕ → Owner → Type 0
-OwnedBy r i Nobody = (m : ℕ) → Owned r i m → ⊥
-OwnedBy r i (Slot slot) = (m : ℕ) × LastOwned r i m × (slot ≡ (r m).arb)
+abbrev pub OwnedBy : Lines → ℕ → Option ℕ → Type 0
+OwnedBy r i None = (m : ℕ) → Owned r i m → ⊥
+OwnedBy r i (Some slot) = (m : ℕ) × LastOwned r i m × (slot ≡ (r m).arb)
 
-owned-exact : (r : Lines) (i : ℕ) (o : Owner) → OwnedBy r i o → (is_owned o ≡ true) ↔ ((m : ℕ) × Owned r i m)
-owned-exact r i Nobody h = (λ e. absurd (false≢true e), λ p. absurd (h p.0 p.1))
-owned-exact r i (Slot slot) (m, l, same) = (λ _. (m, l.owned), λ _. refl)
+owned-exact : (r : Lines) (i : ℕ) (o : Option ℕ) → OwnedBy r i o → (is_owned o ≡ true) ↔ ((m : ℕ) × Owned r i m)
+owned-exact r i None h = (λ e. absurd (false≢true e), λ p. absurd (h p.0 p.1))
+owned-exact r i (Some slot) (m, l, same) = (λ _. (m, l.owned), λ _. refl)
 
 -- ---- the judge's wave before record i
 pub record WaveIs (r : Lines) (i : ℕ) (w : Wave) : Type 0 where
@@ -284,7 +283,7 @@ owned_below r i m f o p q =
     (λ e. q (and_pair (subst (λ k. (r k).start ≡ true) e o.starts) ((asked-exact r i f).1 (subst (λ k. Asked r k 1) e o.asked))))
 
 -- a START of a wave makes its master the owner
-owner_now : (r : Lines) (i : ℕ) → Forward r i → (r i).reset ≡ false → ((r i).start && asked r i) ≡ true → OwnedBy r (suc i) (Slot (r i).arb)
+owner_now : (r : Lines) (i : ℕ) → Forward r i → (r i).reset ≡ false → ((r i).start && asked r i) ≡ true → OwnedBy r (suc i) (Some (r i).arb)
 owner_now r i f nr e =
     let z = and_both (r i).start (asked r i) e in (
       i,
@@ -296,15 +295,15 @@ owner_now r i f nr e =
     )
 
 -- any other record leaves the owner
-owner-stays : (r : Lines) (i : ℕ) (o : Owner) → Forward r i → (r i).reset ≡ false → ((r i).start && asked r i) ≡ false → OwnedBy r i o → OwnedBy r (suc i) o
-owner-stays r i Nobody f nr e h = λ m o. owned_below r i m f o (h m) (λ t. clash t e)
-owner-stays r i (Slot s) f nr e (m, l, same) = (
+owner-stays : (r : Lines) (i : ℕ) (o : Option ℕ) → Forward r i → (r i).reset ≡ false → ((r i).start && asked r i) ≡ false → OwnedBy r i o → OwnedBy r (suc i) o
+owner-stays r i None f nr e h = λ m o. owned_below r i m f o (h m) (λ t. clash t e)
+owner-stays r i (Some s) f nr e (m, l, same) = (
   m,
   record { owned = owned_on r i m nr l.owned; none = λ n gt o. owned_below r i n f o (l.none n gt) (λ t. clash t e) },
   same,
 )
 
-owner-next : (r : Lines) (i : ℕ) (o : Owner) → Forward r i → (r i).reset ≡ false → OwnedBy r i o → OwnedBy r (suc i) (cond ((r i).start && asked r i) (Slot (r i).arb) o)
+owner-next : (r : Lines) (i : ℕ) (o : Option ℕ) → Forward r i → (r i).reset ≡ false → OwnedBy r i o → OwnedBy r (suc i) (cond ((r i).start && asked r i) (Some (r i).arb) o)
 owner-next r i o f nr h = choice (OwnedBy r (suc i)) ((r i).start && asked r i) (owner_now r i f nr) (λ e. owner-stays r i o f nr e h)
 
 ride_next : (r : Lines) (i : ℕ) (w : Wave) → Riding r i w.since w.arb w.turn → (r i).reset ≡ false → (last r i ≡ true → (gap r i ≡ 1)) → ((r i).start ≡ true → asked r i ≡ true → (r i).arb ≤ w.arb)
@@ -324,7 +323,7 @@ wave-next r i w f h nr r9 r10 =
     record {
       rqst = rw (nr, and-true (r i).rqst);
       prior = asked_is r i w h ∙ rw nr;
-      owner = subst (λ y. OwnedBy r (suc i) (cond ((r i).start && y) (Slot (r i).arb) w.owner)) (sym same) (owner-next r i w.owner f nr h.owner);
+      owner = subst (λ y. OwnedBy r (suc i) (cond ((r i).start && y) (Some (r i).arb) w.owner)) (sym same) (owner-next r i w.owner f nr h.owner);
       ride = ride_next r i w h.ride nr
           (λ act. eqb-true (gap r i) 1 (and_both (eqb (gap r i) 1) ((r i).rqst || (r i).start) (implied w.rqst _ r9 (h.rqst ∙ act))).0)
           (λ s y. leb-true (r i).arb w.arb (implied ((r i).start && asked_of w (gap r i)) _ r10 (and_pair s (same ∙ y))))

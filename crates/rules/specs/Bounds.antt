@@ -2,13 +2,11 @@
 -- limit, ARB at most 15; span at most 2^31 times records; starts, acks, aborted at most records." Of what document 02's wish 3 adds: an open transfer's
 -- busy cycles are at most 256 for each strobe, its age and one (the watchdog restarts with each, by wish 5), and the owner's slot is at most 15. As tests
 -- and as facts.
-use Rattle.std.specs.Prelude.{ℕ, ◌+◌, ◌*◌, ◌^◌, ◌≤◌, ◌<◌, Bool, true, ◌&&◌, leb, ltb}
+use Rattle.std.specs.Prelude.{ℕ, ◌+◌, ◌*◌, ◌^◌, ◌≤◌, ◌<◌, Bool, true, ◌&&◌, leb, ltb, Option, Some, None}
 use Rattle.rules.specs.declared.Judge.{Judge}
 use Rattle.rules.specs.declared.Tally.{Tally}
 use Rattle.rules.specs.declared.Transfer.{Transfer}
 use Rattle.rules.specs.declared.Transfer.TheVariants.{Idle, Open}
-use Rattle.rules.specs.declared.Owner.{Owner}
-use Rattle.rules.specs.declared.Owner.TheVariants.{Nobody, Slot}
 use Rattle.basics.specs.Numbers.{watchdog, lawful_limit}
 
 -- ---- as tests
@@ -17,9 +15,9 @@ transfer_bounds Idle = true
 transfer_bounds (Open words strobes age busy) =
     leb 1 words && leb words 16 && ltb strobes words && leb age watchdog && leb busy (watchdog * strobes + age + 1)
 
-abbrev pub owner_bounds : Owner → Bool
-owner_bounds Nobody = true
-owner_bounds (Slot slot) = leb slot 15
+abbrev pub owner_bounds : Option ℕ → Bool
+owner_bounds None = true
+owner_bounds (Some slot) = leb slot 15
 
 unfoldable pub judge_bounds : Judge → Bool
 judge_bounds j =
@@ -48,9 +46,9 @@ abbrev pub SoundTransfer : Transfer → Type 0
 SoundTransfer Idle = Unit {0}
 SoundTransfer (Open words strobes age busy) = SoundOpen words strobes age busy
 
-abbrev pub SoundOwner : Owner → Type 0
-SoundOwner Nobody = Unit {0}
-SoundOwner (Slot slot) = slot ≤ 15
+abbrev pub SoundOwner : Option ℕ → Type 0
+SoundOwner None = Unit {0}
+SoundOwner (Some slot) = slot ≤ 15
 
 pub record SoundJudge (j : Judge) : Type 0 where
   pub low : 1 ≤ j.limit

@@ -1,10 +1,9 @@
 -- Document 02, wish 2: "No record meets 8b and 8c at once, and that is to be shown." Of every recording; and the states within document 01's bounds
 -- of which it is not so.
-use Rattle.std.specs.Prelude.{ℕ, ◌+◌, true, false, List, [], ◌∷◌, ◌≡◌}
+use Rattle.std.specs.Prelude.{ℕ, ◌+◌, true, false, List, [], ◌∷◌, ◌≡◌, Some}
 use Rattle.rules.specs.declared.Judge.{Judge}
 use Rattle.rules.specs.declared.Tally.{Tally}
 use Rattle.rules.specs.declared.Transfer.TheVariants.{Idle}
-use Rattle.rules.specs.declared.Owner.TheVariants.{Slot}
 use Rattle.rules.specs.declared.Verdict.TheVariants.{Breach}
 use Rattle.rules.specs.Rules.{rule8b, rule8c}
 use Rattle.rules.specs.State.{asked_of, twice_of, zero_tally}
@@ -32,7 +31,7 @@ stray since =
       seen = true;
       stamp = 0;
       transfer = Idle;
-      wave = record { rqst = true; prior = false; owner = Slot 5; since = since; arb = 5; turn = 1 };
+      wave = record { rqst = true; prior = false; owner = Some 5; since = since; arb = 5; turn = 1 };
     }
 
 -- in the cycle after it a START fails both tests, and 8b is told

@@ -1,5 +1,5 @@
 -- Document 01, "The judge": what the judge keeps of the records before, its state after a record that breaks no rule, and the tally.
-use Rattle.std.specs.Prelude.{ℕ, ◌+◌, Bool, true, false, not, cond, ◌&&◌, ◌||◌, ltb, eqb}
+use Rattle.std.specs.Prelude.{ℕ, ◌+◌, Bool, true, false, not, cond, ◌&&◌, ◌||◌, ltb, eqb, Option, Some, None}
 use Rattle.basics.specs.Lines.{one}
 use Rattle.codes.specs.Owed.{words_of}
 use Rattle.record.specs.declared.Record.{Record}
@@ -8,8 +8,6 @@ use Rattle.rules.specs.declared.Wave.{Wave}
 use Rattle.rules.specs.declared.Tally.{Tally}
 use Rattle.rules.specs.declared.Transfer.{Transfer}
 use Rattle.rules.specs.declared.Transfer.TheVariants.{Idle, Open}
-use Rattle.rules.specs.declared.Owner.{Owner}
-use Rattle.rules.specs.declared.Owner.TheVariants.{Nobody, Slot}
 use Rattle.rules.specs.Rules.{difference, strobe}
 
 -- ---- the transfer
@@ -48,9 +46,9 @@ transfer_of t start ack tm0 words d = cond ack Idle (cond start (Open words 0 0 
 
 -- ---- the wave
 -- there is an owner, who may park
-abbrev pub is_owned : Owner → Bool
-is_owned Nobody = false
-is_owned (Slot slot) = true
+abbrev pub is_owned : Option ℕ → Bool
+is_owned None = false
+is_owned (Some slot) = true
 
 -- RQST one cycle before a record that stands d cycles after the last one: a missing cycle has no active line
 abbrev pub asked_of : Wave → ℕ → Bool
@@ -71,7 +69,7 @@ wave_of w rqst start arb d =
     record {
       rqst = rqst;
       prior = asked_of w d;
-      owner = cond (start && asked_of w d) (Slot arb) w.owner;
+      owner = cond (start && asked_of w d) (Some arb) w.owner;
       since = cond rqst (cond (start && asked_of w d) 0 (capped (w.since + d))) 3;
       arb = cond rqst (cond (start && asked_of w d) arb w.arb) 15;
       turn = cond rqst (cond (start && asked_of w d) (cond (eqb arb w.arb) (w.turn + 1) 1) w.turn) 0;
@@ -79,7 +77,7 @@ wave_of w rqst start arb d =
 
 -- no wave, and no START of one since the reset
 abbrev pub fresh_wave : Wave
-fresh_wave = record { rqst = false; prior = false; owner = Nobody; since = 3; arb = 15; turn = 0 }
+fresh_wave = record { rqst = false; prior = false; owner = None; since = 3; arb = 15; turn = 0 }
 
 -- ---- the state
 -- "A recording is read as following a reset"

@@ -1,20 +1,18 @@
 -- Document 01, "The judge" and "Numbers that are fixed": refusals 5, 8 and 1 in that order, and what a call of the judge answers.
-use Rattle.std.specs.Prelude.{ℕ, ◌+◌, ◌/◌, ◌%◌, ◌^◌, Bool, true, false, cond, ◌&&◌, List, length, eqb, leb}
+use Rattle.std.specs.Prelude.{ℕ, ◌+◌, ◌/◌, ◌%◌, ◌^◌, Bool, true, false, cond, ◌&&◌, List, length, eqb, leb, None, Result}
 use Rattle.basics.specs.Numbers.{lawful_limit}
 use Rattle.basics.specs.Order.{unless}
-use Rattle.basics.specs.Answers.{Answer, accepted, refused}
+use Rattle.basics.specs.Answers.{Answer, accepted, refused, answered}
+use Rattle.basics.specs.declared.refusal.Refusal.{Refusal}
 use Rattle.rules.specs.declared.Judge.{Judge}
 use Rattle.rules.specs.declared.Tally.{Tally}
 use Rattle.rules.specs.declared.Transfer.TheVariants.{Idle}
-use Rattle.rules.specs.declared.Owner.TheVariants.{Nobody}
 use Rattle.rules.specs.declared.Progress.{Progress}
 use Rattle.rules.specs.declared.Broken.{Broken}
 use Rattle.rules.specs.declared.Verdict.{Verdict}
 use Rattle.rules.specs.declared.Verdict.TheVariants.{Conforming, Breach, OutOfBounds, TooMany, Torn}
 use Rattle.rules.specs.declared.Judged.{Judged}
 use Rattle.rules.specs.declared.Outcome.{Outcome}
-use Rattle.rules.specs.declared.Fresh.{Fresh}
-use Rattle.rules.specs.declared.Fresh.TheVariants.{Ready, BadLimit}
 use Rattle.rules.specs.Bounds.{judge_bounds, tally_bounds}
 use Rattle.rules.specs.State.{fresh_judge}
 use Rattle.rules.specs.Run.{from, run_of, records_in}
@@ -28,7 +26,7 @@ no_judge =
       seen = false;
       stamp = 0;
       transfer = Idle;
-      wave = record { rqst = false; prior = false; owner = Nobody; since = 0; arb = 0; turn = 0 };
+      wave = record { rqst = false; prior = false; owner = None; since = 0; arb = 0; turn = 0 };
     }
 
 -- refusal 3: "hold limit not 1 to 16"
@@ -36,9 +34,8 @@ unfoldable pub fresh_of : ℕ → Answer Judge
 fresh_of limit = cond (lawful_limit limit) (accepted (fresh_judge limit)) (refused 3 no_judge)
 
 -- document 01's number and values for each answer of the constructor
-abbrev pub fresh_answer : Fresh → Answer Judge
-fresh_answer (Ready j) = accepted j
-fresh_answer BadLimit = refused 3 no_judge
+abbrev pub fresh_answer : Result Judge Refusal → Answer Judge
+fresh_answer = answered no_judge
 
 -- ---- a call of the judge
 -- "the tally's records and the whole ones now given pass 2^30 together"

@@ -3,12 +3,15 @@
 #![tactic(auto)]
 
 ghost use Rattle.std.specs.Prelude.{◌≡◌};
-ghost use Rattle.rules.specs.State.{is_open, is_owned, fresh_wave, zero_tally};
-ghost use Rattle.rules.specs.Verdict.{fresh_answer, fresh_of, refused_by};
+ghost use Rattle.basics.specs.Answers.{answered};
+ghost use Rattle.rules.specs.State.{is_open, fresh_wave, zero_tally};
+ghost use Rattle.rules.specs.Verdict.{no_judge, fresh_of, refused_by};
+
+use basics::Refusal;
 
 // The transfer that is open before the next record, with its words, the strobes counted so far, its age in cycles since its START or its last strobe,
 // and the cycles that it has been busy, its START's with them.
-#[derive(Clone, Copy)]
+#[derive(Clone, Copy, PartialEq, Eq)]
 pub enum Transfer {
     Idle,
     Open {
@@ -19,20 +22,14 @@ pub enum Transfer {
     },
 }
 
-// The owner of the bus, who may park: the slot of the last START of a wave since the reset, or nobody where there was none.
-#[derive(Clone, Copy)]
-pub enum Owner {
-    Nobody,
-    Slot(u8),
-}
-
 // What the judge keeps of RQST, of the wave and of its STARTs.
-#[derive(Clone, Copy)]
+#[derive(Clone, Copy, PartialEq, Eq)]
 pub struct Wave {
     // RQST in the last record, and one cycle before that record
     pub rqst: bool,
     pub prior: bool,
-    pub owner: Owner,
+    // the owner of the bus, who may park: the slot of the last START of a wave since the reset, or nobody where there was none
+    pub owner: Option<u8>,
     // cycles from the wave's last START to the last record, 3 for three or more and where the wave has had none
     pub since: u8,
     // ARB at that START, 15 where there is none, and how many STARTs in a row had it
@@ -41,7 +38,7 @@ pub struct Wave {
 }
 
 // The judge's state before a record.
-#[derive(Clone, Copy)]
+#[derive(Clone, Copy, PartialEq, Eq)]
 pub struct Judge {
     pub limit: u8,
     // a record has been judged, and `stamp` is its stamp
@@ -52,7 +49,7 @@ pub struct Judge {
 }
 
 // The totals: records, the sum of the stamps' differences, STARTs, ACKs and aborted transfers.
-#[derive(Clone, Copy)]
+#[derive(Clone, Copy, PartialEq, Eq, Default)]
 pub struct Tally {
     pub records: u32,
     pub span: u64,
@@ -61,14 +58,16 @@ pub struct Tally {
     pub aborted: u32,
 }
 
+// Stays: rules/specs/Names (`only`, `no_rule`) and Rules (`rules`) name a rule by document 01's number, and programs print it.
 // A rule's name: its number in document 01 and, of rule 8, its kind (document 02, wish 2): 1 for 8a, 2 for 8b, 3 for 8c. The other rules
 // are of kind 0; both are 0 where no rule is broken.
-#[derive(Clone, Copy)]
+#[derive(Clone, Copy, PartialEq, Eq)]
 pub struct Rule {
     pub number: u8,
     pub kind: u8,
 }
 
+// Stays: as `Rule`, its definitions in rules/specs/Run and Verdict (`step_of`, `verdict_of`) name a rule by document 01's number.
 // How far a recording has been judged: the rule that a record broke, by number and kind (0: none so far), the span at that record, and the
 // state and the tally before it.
 #[derive(Clone, Copy)]
@@ -81,7 +80,7 @@ pub struct Progress {
 }
 
 // A broken rule, by number and kind; the place of its record, which is the tally's records before it; and the span there.
-#[derive(Clone, Copy)]
+#[derive(Clone, Copy, PartialEq, Eq)]
 pub struct Broken {
     pub rule: u8,
     pub kind: u8,
@@ -90,7 +89,7 @@ pub struct Broken {
 }
 
 // What a call of the judge says. The last three are refusals 5, 8 and 1.
-#[derive(Clone, Copy)]
+#[derive(Clone, Copy, PartialEq, Eq)]
 pub enum Verdict {
     Conforming,
     Breach(Broken),
@@ -114,36 +113,11 @@ pub struct Outcome {
     pub tally: Tally,
 }
 
-// A fresh judge, or refusal 3.
-#[derive(Clone, Copy)]
-pub enum Fresh {
-    Ready(Judge),
-    BadLimit,
-}
-
 // Whether a transfer is open.
 pub fn is_open(transfer: Transfer) -> bool
     ensures { result ≡ is_open transfer }
 {
-    match transfer {
-        Transfer::Idle => false,
-        Transfer::Open {
-            words: _,
-            strobes: _,
-            age: _,
-            busy: _,
-        } => true,
-    }
-}
-
-// Whether there is an owner.
-pub fn is_owned(owner: Owner) -> bool
-    ensures { result ≡ is_owned owner }
-{
-    match owner {
-        Owner::Nobody => false,
-        Owner::Slot(_) => true,
-    }
+    matches!(transfer, Transfer::Open { .. })
 }
 
 // The verdict of a call that is refused by this number.
@@ -151,13 +125,11 @@ pub fn is_owned(owner: Owner) -> bool
 pub fn refused_by(number: u8) -> Verdict
     ensures { result ≡ refused_by number }
 {
-    if number == 5 {
-        return Verdict::OutOfBounds;
+    match number {
+        5 => Verdict::OutOfBounds,
+        8 => Verdict::TooMany,
+        _ => Verdict::Torn,
     }
-    if number == 8 {
-        return Verdict::TooMany;
-    }
-    Verdict::Torn
 }
 
 impl Wave {
@@ -168,7 +140,7 @@ impl Wave {
         Wave {
             rqst: false,
             prior: false,
-            owner: Owner::Nobody,
+            owner: None,
             since: 3,
             arb: 15,
             turn: 0,
@@ -181,13 +153,7 @@ impl Tally {
     pub fn zero() -> Tally
         ensures { result ≡ zero_tally }
     {
-        Tally {
-            records: 0,
-            span: 0,
-            starts: 0,
-            acks: 0,
-            aborted: 0,
-        }
+        Tally::default()
     }
 }
 
@@ -199,21 +165,21 @@ impl Judge {
 
     pub const MOST_RECORDS: u32 = 1073741824;
 
-    // A recording is read as following a reset.
-    pub fn fresh(limit: u8) -> Fresh
-        ensures { fresh_answer result ≡ fresh_of limit }
+    // A recording is read as following a reset. A limit that isn't lawful is refused by 3.
+    #[tactic(auto, unfolding(crate::specs::Verdict::fresh_of))]
+    pub fn fresh(limit: u8) -> Result<Judge, Refusal>
+        ensures { answered no_judge result ≡ fresh_of limit }
     {
-        if (1 <= limit) & (limit <= Judge::MOST_STARTS) {
-            let wave = Wave::fresh();
-            let judge = Judge {
-                limit: limit,
-                seen: false,
-                stamp: 0,
-                transfer: Transfer::Idle,
-                wave: wave,
-            };
-            return Fresh::Ready(judge);
+        let lawful = (1 <= limit) & (limit <= Judge::MOST_STARTS);
+        if !lawful {
+            return Err(Refusal::Value);
         }
-        Fresh::BadLimit
+        Ok(Judge {
+            limit,
+            seen: false,
+            stamp: 0,
+            transfer: Transfer::Idle,
+            wave: Wave::fresh(),
+        })
     }
 }
