@@ -1,4 +1,5 @@
 pub mod PlaceLaws
+pub mod PageLaws
 pub mod NumberLaws
 pub mod DecimalLaws
 pub mod Examples

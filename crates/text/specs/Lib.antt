@@ -2,3 +2,4 @@ pub mod Words
 pub mod Decimal
 pub mod Numbers
 pub mod Places
+pub mod Pages

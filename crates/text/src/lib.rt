@@ -1,10 +1,14 @@
 // Text in lent buffers: words and numbers put behind one another, and numbers read from words.
 #![tactic(auto)]
 
+mod page;
+
 ghost use Rattle.std.specs.Prelude.{◌≡◌, true, ◌++◌, ◌+◌, ◌≤◌, ◌<◌, ◌^◌, length, take, drop};
 ghost use Rattle.text.specs.Decimal.{digit, decimal_of};
 ghost use Rattle.text.specs.Numbers.{is_digit, with_digit, capped, number_of};
 ghost use Rattle.text.specs.Places.{front, fits, moved_by, put_at};
+
+pub use page::Page;
 
 // Where the next byte goes, and whether all that was put so far had room.
 #[derive(Clone, Copy)]
