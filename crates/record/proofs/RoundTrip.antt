@@ -2,7 +2,7 @@
 use Prim.Native.Nat.{ℕ, zero, suc, ◌+◌, ◌%◌, ◌^◌, ◌<◌, ◌≤◌}
 use mathlib.Core.Path.{◌≡◌, refl, sym, ap, subst, ◌∙◌}
 use mathlib.Core.List.{List, ◌++◌, append_assoc}
-use mathlib.Core.Bool.{Bool, true, false, cond}
+use mathlib.Core.Bool.{Bool, true, false}
 use native.Mathlib.Omega.{arith}
 use native.Mathlib.Nat.{mod-eq_of_lt}
 use borrow.Author.Tests.{eqb-true, lt-leb}
@@ -10,16 +10,15 @@ use lib.Dec.{eqb}
 use lib.ListN.{length, take, drop, replicate, length-append, length-drop, take-append-drop}
 use lib.Seq.{length-take-le, take_all, drop_at, take_at, drop-drop, get_or-drop}
 use Rattle.basics.specs.Lines.{one}
-use Rattle.basics.specs.Answers.{Answer, accepted}
+use Rattle.std.specs.Prelude.{Result}
+use Rattle.basics.specs.Answers.{Answer, accepted, call_number}
+use Rattle.basics.specs.declared.refusal.Refusal.{Refusal}
+use Rattle.basics.proofs.Refusals.{one_result, one_call}
 use Rattle.basics.proofs.Bools.{by-test, cond-true, cond-false}
 use Rattle.record.specs.Digits.{number, digits}
 use Rattle.record.specs.Layout.{fields, values, bytes, packed, fields_in, record_in, spare_in}
-use Rattle.record.specs.Packing.{too_wide, too_few, packed_number, pack_refusal, pack_into, unpacked_answer, parsed, unpack_of}
+use Rattle.record.specs.Packing.{too_wide, too_few, blank, pack_refusal, pack_into, unpacked_answer, parsed, unpack_of}
 use Rattle.record.specs.declared.Record.{Record}
-use Rattle.record.specs.declared.Packed.{Packed}
-use Rattle.record.specs.declared.Packed.TheVariants.{Written, TooWide, NoRoom}
-use Rattle.record.specs.declared.Unpacked.{Unpacked}
-use Rattle.record.specs.declared.Unpacked.TheVariants.{Is, SpareSet, TooFew}
 use Rattle.record.proofs.Digits.{Fit, digits-fit, number_digits, digits_number, number_lt}
 use Rattle.record.proofs.Bytes.{AllBytes, first_of}
 use Rattle.record.proofs.Widths.{fit, too_wide_is}
@@ -171,23 +170,6 @@ only_packing bs r l f e =
     let g = parsed-from bs r e in
     sym (packed_in bs b g.0) ∙ ap packed g.1
 
--- each answer from its number and values
-abbrev packed_by : ℕ → Packed
-packed_by n = cond (eqb n 0) Written (cond (eqb n 2) TooWide NoRoom)
-
-packed-number : (p : Packed) → packed_by (packed_number p) ≡ p
-packed-number Written = refl
-packed-number TooWide = refl
-packed-number NoRoom = refl
-
-abbrev unpacked_by : Answer Record → Unpacked
-unpacked_by a = cond (eqb a.number 0) (Is a.value) (cond (eqb a.number 3) SpareSet TooFew)
-
-unpacked_answer_lem : (u : Unpacked) → unpacked_by (unpacked_answer u) ≡ u
-unpacked_answer_lem (Is r) = refl
-unpacked_answer_lem SpareSet = refl
-unpacked_answer_lem TooFew = refl
-
 -- Document 01's record, whole
 pub record RoundTrip : Type 0 where
   -- a record that fits, packed at any offset of any buffer with room, is unpacked there
@@ -201,8 +183,8 @@ pub record RoundTrip : Type 0 where
   pub one_packing : (bs cs : List ℕ) (r : Record) → length bs ≡ 16 → length cs ≡ 16 → AllBytes bs → AllBytes cs → parsed bs ≡ accepted r → parsed cs ≡ accepted r → bs ≡ cs
   pub one_record : (r s : Record) → too_wide r ≡ false → too_wide s ≡ false → packed r ≡ packed s → r ≡ s
   -- the answers' numbers and values lose nothing
-  pub numbers_differ : (p q : Packed) → packed_number p ≡ packed_number q → p ≡ q
-  pub answers_differ : (u v : Unpacked) → unpacked_answer u ≡ unpacked_answer v → u ≡ v
+  pub numbers_differ : (p q : Result (Unit {0}) Refusal) → call_number p ≡ call_number q → p ≡ q
+  pub answers_differ : (u v : Result Record Refusal) → unpacked_answer u ≡ unpacked_answer v → u ≡ v
 
 pub round_trip : RoundTrip
 round_trip =
@@ -213,6 +195,6 @@ round_trip =
       a_packing = λ r n. (sixteen r, packed-bytes r, parsed-packed r n);
       one_packing = λ bs cs r l m f g d e. only_packing bs r l f d ∙ sym (only_packing cs r m g e);
       one_record = λ r s n m e. sym (record_packed r n) ∙ ap record_in e ∙ record_packed s m;
-      numbers_differ = λ p q e. sym (packed-number p) ∙ ap packed_by e ∙ packed-number q;
-      answers_differ = λ u v e. sym (unpacked_answer_lem u) ∙ ap unpacked_by e ∙ unpacked_answer_lem v;
+      numbers_differ = one_call;
+      answers_differ = one_result blank;
     }

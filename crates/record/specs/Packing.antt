@@ -1,13 +1,10 @@
 -- Document 01: "A record is packed at any offset of a lent buffer: only its 16 bytes change." Refusals 2 and 6 of packing, 6 and 3 of unpacking.
-use Rattle.std.specs.Prelude.{ℕ, ◌+◌, ◌^◌, List, [], ◌∷◌, ◌++◌, Bool, false, cond, not, ◌||◌, eqb, ltb, leb, length, take, drop}
+use Rattle.std.specs.Prelude.{ℕ, ◌+◌, ◌^◌, List, [], ◌∷◌, ◌++◌, Bool, false, cond, not, ◌||◌, eqb, ltb, leb, length, take, drop, Result}
 use Rattle.basics.specs.Order.{unless}
-use Rattle.basics.specs.Answers.{Answer, accepted, refused}
+use Rattle.basics.specs.Answers.{Answer, accepted, refused, answered}
+use Rattle.basics.specs.declared.refusal.Refusal.{Refusal}
 use Rattle.record.specs.Layout.{fields, values, packed, record_in, spare_in}
 use Rattle.record.specs.declared.Record.{Record}
-use Rattle.record.specs.declared.Packed.{Packed}
-use Rattle.record.specs.declared.Packed.TheVariants.{Written, TooWide, NoRoom}
-use Rattle.record.specs.declared.Unpacked.{Unpacked}
-use Rattle.record.specs.declared.Unpacked.TheVariants.{Is, SpareSet, TooFew}
 
 -- one of the values is wider than its bits
 abbrev pub wider_than : List ℕ → List ℕ → Bool
@@ -22,12 +19,6 @@ too_wide r = wider_than fields (values r)
 -- "fewer than 16 bytes from the given offset" of a buffer of so many bytes
 unfoldable pub too_few : ℕ → ℕ → Bool
 too_few size at = ltb size (at + 16)
-
--- document 01's number for each answer of the packer
-abbrev pub packed_number : Packed → ℕ
-packed_number Written = 0
-packed_number TooWide = 2
-packed_number NoRoom = 6
 
 -- the packer's refusal, in document 01's order: 2 before 6
 unfoldable pub pack_refusal : List ℕ → ℕ → Record → ℕ
@@ -60,10 +51,8 @@ blank =
     }
 
 -- document 01's number and values for each answer of the unpacker
-abbrev pub unpacked_answer : Unpacked → Answer Record
-unpacked_answer (Is r) = accepted r
-unpacked_answer SpareSet = refused 3 blank
-unpacked_answer TooFew = refused 6 blank
+abbrev pub unpacked_answer : Result Record Refusal → Answer Record
+unpacked_answer = answered blank
 
 -- what sixteen bytes say: "spare bits not zero on unpacking" is 3
 unfoldable pub parsed : List ℕ → Answer Record

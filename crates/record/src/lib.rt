@@ -3,11 +3,14 @@
 
 ghost use Rattle.std.specs.Prelude.{◌≡◌, false, ◌++◌, ◌+◌, ◌*◌, ◌%◌, ◌/◌, ◌≤◌, ◌<◌, length, take, drop};
 ghost use Rattle.basics.specs.Lines.{one};
+ghost use Rattle.basics.specs.Answers.{call_number};
 ghost use Rattle.record.specs.Layout.{packed, record_in};
-ghost use Rattle.record.specs.Packing.{too_wide, too_few, packed_number, pack_refusal, pack_into, unpacked_answer, parsed, unpack_of, blank, lines_of, spare_of};
+ghost use Rattle.record.specs.Packing.{too_wide, too_few, pack_refusal, pack_into, unpacked_answer, parsed, unpack_of, lines_of, spare_of};
 
-// One bus cycle's lines with their stamp; the spare bits are not part of it.
-#[derive(Clone, Copy)]
+use basics::Refusal;
+
+// One bus cycle's lines with their stamp; the spare bits are not part of it. All zeros where nothing is read.
+#[derive(Clone, Copy, Default)]
 pub struct Record {
     pub stamp: u32,
     pub reset: bool,
@@ -27,20 +30,6 @@ pub struct Record {
     pub vad: u64,
 }
 
-#[derive(Clone, Copy)]
-pub enum Packed {
-    Written,
-    TooWide,
-    NoRoom,
-}
-
-#[derive(Clone, Copy)]
-pub enum Unpacked {
-    Is(Record),
-    SpareSet,
-    TooFew,
-}
-
 // Of the fields that their types let be too wide there are two: ARB has 4 bits and VAD 33.
 fn is_too_wide(lines: Record) -> bool
     ensures { result ≡ too_wide lines }
@@ -52,10 +41,7 @@ fn is_too_wide(lines: Record) -> bool
 fn is_too_few(size: usize, at: usize) -> bool
     ensures { result ≡ too_few size at }
 {
-    if at > size {
-        return true;
-    }
-    size - at < 16
+    at > size || size - at < 16
 }
 
 // Four lines side by side.
@@ -92,6 +78,7 @@ fn byte_nine(lines: Record) -> u8
 }
 
 // The field writer: the sixteen bytes of a record at the front of the part that was lent.
+// Stays: byte by byte, since AD and VAD begin and end within a byte, and `to_be_bytes` would serve the stamp's four alone.
 fn write_fields(part: &mut [u8], lines: Record)
     requires { (16 ≤ length part.old) × (too_wide lines ≡ false) }
     ensures { part.new ≡ packed lines ++ drop 16 part.old }
@@ -117,39 +104,32 @@ fn write_fields(part: &mut [u8], lines: Record)
     part[15] = 0;
 }
 
-// Packs a record at an offset of a lent buffer: only its sixteen bytes change, and nothing on a refusal.
-pub fn pack(buf: &mut [u8], at: usize, lines: Record) -> Packed
-    ensures { (packed_number result ≡ pack_refusal buf.old at lines) × (buf.new ≡ pack_into buf.old at lines) }
+// Packs a record at an offset of a lent buffer: only its sixteen bytes change, and nothing on a refusal. A field too wide is 2, too few bytes 6.
+pub fn pack(buf: &mut [u8], at: usize, lines: Record) -> Result<(), Refusal>
+    ensures { (call_number result ≡ pack_refusal buf.old at lines) × (buf.new ≡ pack_into buf.old at lines) }
 {
     if is_too_wide(lines) {
-        return Packed::TooWide;
+        return Err(Refusal::Place);
     }
     if is_too_few(buf.len(), at) {
-        return Packed::NoRoom;
+        return Err(Refusal::Room);
     }
     write_fields(&mut buf[at..], lines);
-    Packed::Written
-}
-
-// Four bytes as one number: the stamp, and most of AD and VAD. A compiler reads them in one load.
-fn stamp_of(a: u8, b: u8, c: u8, d: u8) -> u32
-    ensures { result ≡ a * 16777216 + b * 65536 + c * 256 + d }
-{
-    a as u32 * 16777216 + b as u32 * 65536 + c as u32 * 256 + d as u32
+    Ok(())
 }
 
 // AD: the lower half of a byte, three bytes, and the upper half of a byte.
 fn ad_of(a: u8, b: u8, c: u8, d: u8, e: u8) -> u32
     ensures { result ≡ a % 16 * 268435456 + b * 1048576 + c * 4096 + d * 16 + e / 16 }
 {
-    (a % 16) as u32 * 268435456 + stamp_of(b, c, d, e) / 16
+    (a % 16) as u32 * 268435456 + u32::from_be_bytes([b, c, d, e]) / 16
 }
 
 // VAD: four bytes and the highest bit of a fifth.
 fn vad_of(a: u8, b: u8, c: u8, d: u8, e: u8) -> u64
     ensures { result ≡ a * 33554432 + b * 131072 + c * 512 + d * 2 + e / 128 }
 {
-    stamp_of(a, b, c, d) as u64 * 2 + (e / 128) as u64
+    u32::from_be_bytes([a, b, c, d]) as u64 * 2 + (e / 128) as u64
 }
 
 // The spare bits: a byte without its highest bit, and a byte.
@@ -167,11 +147,11 @@ fn read_record(part: &[u8]) -> Record
     let four = part[4];
     let five = part[5];
     let nine = part[9];
-    let stamp = stamp_of(part[0], part[1], part[2], part[3]);
+    let stamp = u32::from_be_bytes([part[0], part[1], part[2], part[3]]);
     let ad = ad_of(five, part[6], part[7], part[8], nine);
     let vad = vad_of(part[10], part[11], part[12], part[13], part[14]);
     Record {
-        stamp: stamp,
+        stamp,
         reset: four / 128 % 2 == 1,
         rqst: four / 64 % 2 == 1,
         arb: four / 4 % 16,
@@ -181,35 +161,12 @@ fn read_record(part: &[u8]) -> Record
         tm0: five / 64 % 2 == 1,
         sp: five / 32 % 2 == 1,
         spv: five / 16 % 2 == 1,
-        ad: ad,
+        ad,
         vtm1: nine / 8 % 2 == 1,
         vtm0: nine / 4 % 2 == 1,
         vack: nine / 2 % 2 == 1,
         vsack: nine % 2 == 1,
-        vad: vad,
-    }
-}
-
-fn blank_record() -> Record
-    ensures { result ≡ blank }
-{
-    Record {
-        stamp: 0,
-        reset: false,
-        rqst: false,
-        arb: 0,
-        start: false,
-        ack: false,
-        tm1: false,
-        tm0: false,
-        sp: false,
-        spv: false,
-        ad: 0,
-        vtm1: false,
-        vtm0: false,
-        vack: false,
-        vsack: false,
-        vad: 0,
+        vad,
     }
 }
 
@@ -218,7 +175,7 @@ pub fn lines_in(part: &[u8]) -> Record
     ensures { result ≡ lines_of part.now }
 {
     if is_too_few(part.len(), 0) {
-        return blank_record();
+        return Record::default();
     }
     read_record(part)
 }
@@ -233,24 +190,23 @@ pub fn spare_in(part: &[u8]) -> u16
     spare_of(part[14], part[15])
 }
 
-// What the first sixteen bytes of a part say.
-fn read_part(part: &[u8]) -> Unpacked
+// What the first sixteen bytes of a part say; spare bits that are set are 3.
+fn read_part(part: &[u8]) -> Result<Record, Refusal>
     requires { 16 ≤ length part.now }
     ensures { unpacked_answer result ≡ parsed (take 16 part.now) }
 {
-    if spare_of(part[14], part[15]) == 0 {
-        Unpacked::Is(read_record(part))
-    } else {
-        Unpacked::SpareSet
+    if spare_of(part[14], part[15]) != 0 {
+        return Err(Refusal::Value);
     }
+    Ok(read_record(part))
 }
 
-// Unpacks the record at an offset of a buffer.
-pub fn unpack(buf: &[u8], at: usize) -> Unpacked
+// Unpacks the record at an offset of a buffer; fewer than sixteen bytes from there are 6.
+pub fn unpack(buf: &[u8], at: usize) -> Result<Record, Refusal>
     ensures { unpacked_answer result ≡ unpack_of buf.now at }
 {
     if is_too_few(buf.len(), at) {
-        return Unpacked::TooFew;
+        return Err(Refusal::Room);
     }
     read_part(&buf[at..])
 }
