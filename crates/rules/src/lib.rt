@@ -4,7 +4,9 @@
 
 ghost use Rattle.std.specs.Prelude.{◌≡◌};
 ghost use Rattle.basics.specs.Answers.{answered};
-ghost use Rattle.rules.specs.State.{is_open, fresh_wave, zero_tally};
+ghost use Rattle.rules.specs.Names.{only};
+ghost use Rattle.rules.specs.Rules.{strobe};
+ghost use Rattle.rules.specs.State.{is_open, open_words, open_strobes, open_age, open_busy, fresh_wave, zero_tally};
 ghost use Rattle.rules.specs.Verdict.{no_judge, fresh_of, refused_by};
 
 use basics::Refusal;
@@ -20,6 +22,15 @@ pub enum Transfer {
         age: u16,
         busy: u32,
     },
+}
+
+// An open transfer's numbers; all are 0 where none is open.
+#[derive(Clone, Copy, Default)]
+pub struct Counts {
+    pub words: u8,
+    pub strobes: u8,
+    pub age: u16,
+    pub busy: u32,
 }
 
 // What the judge keeps of RQST, of the wave and of its STARTs.
@@ -61,7 +72,7 @@ pub struct Tally {
 // Stays: rules/specs/Names (`only`, `no_rule`) and Rules (`rules`) name a rule by document 01's number, and programs print it.
 // A rule's name: its number in document 01 and, of rule 8, its kind (document 02, wish 2): 1 for 8a, 2 for 8b, 3 for 8c. The other rules
 // are of kind 0; both are 0 where no rule is broken.
-#[derive(Clone, Copy, PartialEq, Eq)]
+#[derive(Clone, Copy, PartialEq, Eq, Default)]
 pub struct Rule {
     pub number: u8,
     pub kind: u8,
@@ -120,6 +131,13 @@ pub fn is_open(transfer: Transfer) -> bool
     matches!(transfer, Transfer::Open { .. })
 }
 
+// Whether a record is a strobe of an open transfer of so many words: TM0 with neither START nor ACK, in a block.
+pub fn is_strobe(words: u8, start: bool, ack: bool, tm0: bool) -> bool
+    ensures { result ≡ strobe words start ack tm0 }
+{
+    (1 < words) & tm0 & !start & !ack
+}
+
 // The verdict of a call that is refused by this number.
 #[tactic(auto, unfolding(crate::specs::Verdict::refused_by))]
 pub fn refused_by(number: u8) -> Verdict
@@ -129,6 +147,46 @@ pub fn refused_by(number: u8) -> Verdict
         5 => Verdict::OutOfBounds,
         8 => Verdict::TooMany,
         _ => Verdict::Torn,
+    }
+}
+
+impl Transfer {
+    pub fn counts(self) -> Counts
+        ensures words { result.words ≡ open_words self }
+        ensures strobes { result.strobes ≡ open_strobes self }
+        ensures age { result.age ≡ open_age self }
+        ensures busy { result.busy ≡ open_busy self }
+    {
+        match self {
+            Transfer::Idle => Counts::default(),
+            Transfer::Open {
+                words,
+                strobes,
+                age,
+                busy,
+            } => Counts {
+                words,
+                strobes,
+                age,
+                busy,
+            },
+        }
+    }
+}
+
+impl Rule {
+    // A rule that has no kinds.
+    pub fn only(number: u8) -> Rule
+        ensures { result ≡ only number }
+    {
+        Rule { number, kind: 0 }
+    }
+
+    // A kind of rule 8.
+    pub fn eighth(kind: u8) -> Rule
+        ensures { result ≡ record { number = 8; kind = kind } }
+    {
+        Rule { number: 8, kind }
     }
 }
 
