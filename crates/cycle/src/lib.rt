@@ -36,7 +36,7 @@ pub enum Event {
 }
 
 // One record of the caller's table of sixteen. Words are 0, 1, 2, 4, 8 or 16.
-#[derive(Clone, Copy)]
+#[derive(Clone, Copy, Default)]
 pub struct Node {
     pub wants: bool,
     pub holds: bool,
@@ -44,15 +44,16 @@ pub struct Node {
 }
 
 // What the table comes to: the slots that want, those that hold, and each slot's words.
-#[derive(Clone, Copy)]
+#[derive(Clone, Copy, Default)]
 pub struct Sets {
     pub wants: u16,
     pub holds: u16,
     pub words: [u8; 16],
 }
 
-#[derive(Clone, Copy)]
+#[derive(Clone, Copy, Default)]
 pub enum Note {
+    #[default]
     Clear,
     Short,
     Extra,
@@ -60,7 +61,7 @@ pub enum Note {
 }
 
 // What a cycle answers: the lines, the slot that starts in it, if one does, and the status with which a transfer ends, if one does.
-#[derive(Clone, Copy)]
+#[derive(Clone, Copy, Default)]
 pub struct Reply {
     pub rqst: bool,
     pub start: bool,

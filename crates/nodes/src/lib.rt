@@ -2,22 +2,11 @@
 // word array. What they come to is said in crate `cycle`, specs/Nodes.antt.
 #![tactic(auto)]
 
-ghost use Rattle.std.specs.Prelude.{◌≡◌, ◌<◌, get_or};
-ghost use Rattle.cycle.specs.Nodes.{blank, joined_of, add_of, no_nodes, sets_of};
+ghost use Rattle.std.specs.Prelude.{◌≡◌, ◌<◌};
+ghost use Rattle.cycle.specs.Nodes.{joined_of, add_of, sets_of};
 
 use cycle::{Node, Sets};
 use slots::with;
-
-// A node that asks for nothing.
-fn no_node() -> Node
-    ensures { result ≡ blank }
-{
-    Node {
-        wants: false,
-        holds: false,
-        words: 0,
-    }
-}
 
 // The set with the slot in it, where its node says so.
 #[tactic(auto, unfolding(cycle::specs::Nodes::joined_of))]
@@ -29,6 +18,7 @@ fn join_slot(set: u16, slot: usize, on: bool) -> u16
 }
 
 // The sets with the slot's node in them.
+#[tactic(auto, unfolding(cycle::specs::Nodes::add_of))]
 fn add_node(s: Sets, slot: usize, n: Node) -> Sets
     requires { slot < 16 }
     ensures { result ≡ add_of s slot n }
@@ -38,31 +28,9 @@ fn add_node(s: Sets, slot: usize, n: Node) -> Sets
     let wants = join_slot(s.wants, slot, n.wants);
     let holds = join_slot(s.holds, slot, n.holds);
     Sets {
-        wants: wants,
-        holds: holds,
-        words: words,
-    }
-}
-
-// The sets of no node.
-fn no_nodes() -> Sets
-    ensures { result ≡ no_nodes }
-{
-    Sets {
-        wants: 0,
-        holds: 0,
-        words: [0; 16],
-    }
-}
-
-// The slot's node; one that the table lacks asks for nothing.
-fn node_at(nodes: &[Node], slot: usize) -> Node
-    ensures { result ≡ get_or nodes.now slot blank }
-{
-    if slot < nodes.len() {
-        nodes[slot]
-    } else {
-        no_node()
+        wants,
+        holds,
+        words,
     }
 }
 
@@ -70,11 +38,10 @@ fn node_at(nodes: &[Node], slot: usize) -> Node
 pub fn gather(nodes: &[Node]) -> Sets
     ensures { result ≡ sets_of nodes.now }
 {
-    let mut s = no_nodes();
-    let mut slot: usize = 0;
-    while slot < 16 {
-        s = add_node(s, slot, node_at(nodes, slot));
-        slot = slot + 1;
+    let mut sets = Sets::default();
+    for slot in 0..16 {
+        let node = nodes.get(slot).copied().unwrap_or_default();
+        sets = add_node(sets, slot, node);
     }
-    s
+    sets
 }
