@@ -9,6 +9,7 @@ use native.Mathlib.Nat.{zero-add}
 use lib.ListN.{length, drop, length-drop}
 use lib.Dec.{eqb, ltb, leb}
 use borrow.Author.Tests.{eqb-true, eqb-false, leb-true}
+use Rattle.basics.specs.Answers.{accepted}
 use Rattle.basics.specs.Numbers.{lawful_limit}
 use Rattle.basics.proofs.Bools.{by-test, choice, cond-true, cond-false, and_both}
 use Rattle.rules.specs.declared.Judge.{Judge}
@@ -126,7 +127,7 @@ module _ (limit : ℕ) (low : 1 ≤ limit) (high : limit ≤ 16) where
       }
 
   -- ---- the calls
-  accepts : (pieces : List (List ℕ)) (piece : List ℕ) → fed_of (fed_all (fresh_stream limit) pieces) piece ≡ record { number = 0; stream = feed_of (fed_all (fresh_stream limit) pieces) piece }
+  accepts : (pieces : List (List ℕ)) (piece : List ℕ) → fed_of (fed_all (fresh_stream limit) pieces) piece ≡ accepted (feed_of (fed_all (fresh_stream limit) pieces) piece)
   unfolding fed_of
   accepts pieces piece = cond-true _ _ (ap stream_bounds (fed-all limit pieces) ∙ state_bounds (joined pieces))
 

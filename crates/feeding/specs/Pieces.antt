@@ -1,5 +1,6 @@
 -- An input in pieces of any length, empty ones and single bytes too: what `finish` says is what the whole input comes to.
 use Rattle.std.specs.Prelude.{ℕ, false, List, [], ◌∷◌, ◌++◌, ◌≡◌}
+use Rattle.basics.specs.Answers.{accepted}
 use Rattle.rules.specs.Exact.{joined}
 use Rattle.rules.specs.Verdict.{most_records}
 use Rattle.feeding.specs.declared.Stream.{Stream}
@@ -15,10 +16,10 @@ fed_all s (piece ∷ pieces) = fed_all (feed_of s piece) pieces
 -- THE PROMISE to whoever feeds an input in pieces, for each hold limit 1 to 16
 pub record Feeding (limit : ℕ) : Type 0 where
   -- A fresh state is there, and is where the feeding begins.
-  pub begins : fresh_of limit ≡ record { number = 0; stream = fresh_stream limit }
+  pub begins : fresh_of limit ≡ accepted (fresh_stream limit)
   -- No piece is refused, and the call's answer is the next state.
   pub accepts : (pieces : List (List ℕ)) (piece : List ℕ)
-      → let s = fed_all (fresh_stream limit) pieces in fed_of s piece ≡ record { number = 0; stream = feed_of s piece }
+      → let s = fed_all (fresh_stream limit) pieces in fed_of s piece ≡ accepted (feed_of s piece)
   -- Whatever the pieces are, the end says what the whole input comes to,
   pub says : (pieces : List (List ℕ)) → finish_of (fed_all (fresh_stream limit) pieces) ≡ ending_of limit (joined pieces)
   -- which is right of the recording itself,

@@ -1,5 +1,6 @@
 -- A judge that is fed an input in pieces: its state, its bounds for refusal 5, and what `fresh`, `feed` and `finish` answer.
 use Rattle.std.specs.Prelude.{ℕ, ◌+◌, ◌-◌, ◌*◌, min, Bool, true, false, cond, ◌&&◌, List, [], ◌++◌, length, take, drop, replicate, eqb, ltb, leb}
+use Rattle.basics.specs.Answers.{Answer, accepted, refused}
 use Rattle.basics.specs.Numbers.{lawful_limit}
 use Rattle.rules.specs.declared.Judge.{Judge}
 use Rattle.rules.specs.declared.Tally.{Tally}
@@ -13,7 +14,6 @@ use Rattle.rules.specs.Verdict.{most_records, verdict_of, no_judge}
 use Rattle.feeding.specs.declared.Stop.{Stop}
 use Rattle.feeding.specs.declared.Stop.TheVariants.{Going, AtBreach, PastMost}
 use Rattle.feeding.specs.declared.Stream.{Stream}
-use Rattle.feeding.specs.declared.Fed.{Fed}
 use Rattle.feeding.specs.declared.Ending.{Ending}
 use Rattle.feeding.specs.Input.{whole_in}
 
@@ -74,16 +74,16 @@ unfoldable pub no_stream : Stream
 no_stream = state_with Going no_judge zero_tally []
 
 -- refusal 3: "hold limit not 1 to 16"
-unfoldable pub fresh_of : ℕ → Fed
-fresh_of limit = cond (lawful_limit limit) (record { number = 0; stream = fresh_stream limit }) (record { number = 3; stream = no_stream })
+unfoldable pub fresh_of : ℕ → Answer Stream
+fresh_of limit = cond (lawful_limit limit) (accepted (fresh_stream limit)) (refused 3 no_stream)
 
 -- a piece is put behind the torn record; once the judging has ended, nothing changes any more
 unfoldable pub feed_of : Stream → List ℕ → Stream
 feed_of s piece = cond (goes s.stop) (gone_on s.judge s.tally (torn_of s ++ piece)) s
 
 -- refusal 5 hands the state back
-unfoldable pub fed_of : Stream → List ℕ → Fed
-fed_of s piece = cond (stream_bounds s) (record { number = 0; stream = feed_of s piece }) (record { number = 5; stream = s })
+unfoldable pub fed_of : Stream → List ℕ → Answer Stream
+fed_of s piece = cond (stream_bounds s) (accepted (feed_of s piece)) (refused 5 s)
 
 -- the verdict at the end of the input: what has ended the judging, or else a torn record
 abbrev pub last_verdict : Stop → ℕ → Verdict

@@ -22,13 +22,6 @@ pub struct Stream {
     pub held: usize,
 }
 
-// A call's number, 0 where it is accepted, and the state that it leaves.
-#[derive(Clone, Copy)]
-pub struct Fed {
-    pub number: u8,
-    pub stream: Stream,
-}
-
 // What an input comes to: the verdict, the totals, and whether a transfer is open.
 #[derive(Clone, Copy)]
 pub struct Ending {

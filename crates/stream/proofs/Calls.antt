@@ -15,15 +15,12 @@ use Rattle.rules.specs.declared.Judge.{Judge}
 use Rattle.rules.specs.declared.Tally.{Tally}
 use Rattle.rules.specs.declared.Progress.{Progress}
 use Rattle.rules.specs.declared.Outcome.{Outcome}
-use Rattle.rules.specs.declared.Fresh.{Fresh}
-use Rattle.rules.specs.declared.Fresh.TheVariants.{Ready, BadLimit}
 use Rattle.rules.specs.Bounds.{SoundJudge, SoundTally}
 use Rattle.rules.specs.Verdict.{most_records, verdict_of, outcome_in, outcome_of, no_judge, fresh_answer, fresh_of as judgeFresh}
 use Rattle.rules.specs.State.{zero_tally}
 use Rattle.judge.proofs.Runs.{rest_is}
 use Rattle.feeding.specs.declared.Stop.{Stop}
 use Rattle.feeding.specs.declared.Stop.TheVariants.{Going}
-use Rattle.feeding.specs.declared.Fed.{Fed}
 use Rattle.feeding.specs.declared.Stream.{Stream}
 use Rattle.feeding.specs.Input.{whole_in}
 use Rattle.feeding.specs.State.{goes, padded, taken_in, stop_of, kept_of, state_with, gone_on, fresh_stream, no_stream, fresh_of, feed_of}
@@ -137,18 +134,3 @@ took_in s piece r g e = e ∙ sym (cond-true _ _ g)
 
 pub took_whole : (s : Stream) (piece : List ℕ) (r : Stream) → goes s.stop ≡ true → s.held ≡ 0 → r ≡ gone_on s.judge s.tally piece → r ≡ feed_of s piece
 took_whole s piece r g z e = took_in s piece r g (e ∙ ap (λ (k : ℕ). gone_on s.judge s.tally (take k s.torn ++ piece)) (sym z))
-
--- a fresh state, by what the judge's constructor answers
-pub fresh-ready : (limit : ℕ) (f : Fresh) (j : Judge) (r : Fed) → fresh_answer f ≡ judgeFresh limit → f ≡ Ready j → r ≡ record { number = 0; stream = state_with Going j zero_tally [] } → r ≡ fresh_of limit
-unfolding judgeFresh fresh_of fresh_stream
-fresh-ready limit f j r fe ready re =
-    by-test (lawful_limit limit)
-    (λ e. re ∙ ap (λ (k : Judge). record { number = 0; stream = state_with Going k zero_tally [] }) (ap (λ (a : Answer Judge). a.value) (sym (ap fresh_answer ready) ∙ fe ∙ cond-true _ _ e)) ∙ sym (cond-true _ _ e))
-    (λ e. let z : ◌≡◌ {A = ℕ} 0 3 = ap (λ (a : Answer Judge). a.number) (sym (ap fresh_answer ready) ∙ fe ∙ cond-false _ _ e) in absurd (omega arith))
-
-pub fresh_bad : (limit : ℕ) (f : Fresh) (j : Judge) (r : Fed) → fresh_answer f ≡ judgeFresh limit → f ≡ BadLimit → j ≡ no_judge → r ≡ record { number = 3; stream = state_with Going j zero_tally [] } → r ≡ fresh_of limit
-unfolding judgeFresh fresh_of no_stream
-fresh_bad limit f j r fe bad je re =
-    by-test (lawful_limit limit)
-    (λ e. let z : ◌≡◌ {A = ℕ} 3 0 = ap (λ (a : Answer Judge). a.number) (sym (ap fresh_answer bad) ∙ fe ∙ cond-true _ _ e) in absurd (omega arith))
-    (λ e. re ∙ ap (λ (k : Judge). record { number = 3; stream = state_with Going k zero_tally [] }) je ∙ sym (cond-false _ _ e))

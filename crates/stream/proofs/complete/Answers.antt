@@ -7,27 +7,27 @@ use borrow.Author.Rules.{rules}
 use Rattle.stream.proofs.complete.Goals as goal
 
 pub slice_bounds-filled-end : goal.slice_bounds-filled-end
-slice_bounds-filled-end c = let h = c.least-n.ensures in sym (length-take-le _ _ (omega arith))
+slice_bounds-filled-end c = let h = c.min-n.ensures in sym (length-take-le _ _ (omega arith))
 
 pub filled-front-requires : goal.filled-front-requires
-filled-front-requires c = let a = c.args in fills a.torn a.piece.now a.held c.least-n.result (search rules) c.requires.1.1.1 c.least-n.ensures
+filled-front-requires c = let a = c.args.stream in fills a.torn c.args.piece.now a.held c.min-n.result (search rules) c.requires.1.1.1 c.min-n.ensures
 
 pub slice_bounds-go_on-end : goal.slice_bounds-go_on-end
-slice_bounds-go_on-end c = let a = c.args in front-size a.torn a.piece.now a.held c.least-n.result (search rules) c.requires.1.1.1 c.least-n.ensures c.filled-front.result c.filled-front.ensures
+slice_bounds-go_on-end c = let a = c.args.stream in front-size a.torn c.args.piece.now a.held c.min-n.result (search rules) c.requires.1.1.1 c.min-n.ensures c.filled-front.result c.filled-front.ensures
 
-pub go_on-next-requires : goal.go_on-next-requires
-go_on-next-requires c = let a = c.args in let pre = c.requires in bounds_kept a.judge a.tally _ c.go_on-first.result pre.0 pre.1.0 pre.1.1.0 c.go_on-first.ensures
+pub go_on-requires : goal.go_on-requires
+go_on-requires c = let a = c.args.stream in let pre = c.requires in bounds_kept a.judge a.tally _ c.go_on-first.result pre.0 pre.1.0 pre.1.1.0 c.go_on-first.ensures
 
 pub returns-then-is_going-n : goal.returns-then-is_going-n
-returns-then-is_going-n c = let a = c.args in
+returns-then-is_going-n c = let a = c.args.stream in
     let pre = c.requires in
-    goes_on a.torn a.piece.now a.held c.least-n.result (search (rules, c.well_formed.1.1.0)) pre.1.1.1 c.least-n.ensures
+    goes_on a.torn c.args.piece.now a.held c.min-n.result (search rules) pre.1.1.1 c.min-n.ensures
     a.judge a.tally pre.1.1.0 c.filled-front.result c.filled-front.ensures c.go_on-first.result c.go_on-first.ensures c.is_going.result c.is_going.ensures
-    c.go_on-next.result c.go_on-next.ensures c.if-is_going-n.true
+    c.go_on.result c.go_on.ensures c.if-is_going-n.true
 
 pub returns : goal.returns
-returns c = let a = c.args in
+returns c = let a = c.args.stream in
     let pre = c.requires in
-    ends_there a.torn a.piece.now a.held c.least-n.result (search (rules, c.well_formed.1.1.0)) pre.1.1.1 c.least-n.ensures
+    ends_there a.torn c.args.piece.now a.held c.min-n.result (search rules) pre.1.1.1 c.min-n.ensures
     a.judge a.tally pre.1.1.0 c.filled-front.result c.filled-front.ensures c.go_on-first.result c.go_on-first.ensures c.is_going.result c.is_going.ensures
     c.if-is_going-n.false

@@ -7,33 +7,33 @@ use Rattle.stream.proofs.Calls.{part_few, went_on}
 use Rattle.stream.proofs.go_on.Goals as goal
 
 pub slice_bounds-judge_all-end : goal.slice_bounds-judge_all-end
-slice_bounds-judge_all-end c = let h = c.least-taken.ensures in sym (length-take-le _ _ (omega arith))
+slice_bounds-judge_all-end c = let h = c.min-taken.ensures in sym (length-take-le _ _ (omega arith))
 
 pub slice_bounds-filled-count : goal.slice_bounds-filled-count
-slice_bounds-filled-count c = (behind_in c.is_going.result c.args.bytes.now c.pick_size-behind.result c.pick_size-behind.ensures).0
+slice_bounds-filled-count c = (behind_in c.is_going.result c.args.bytes.now c.pick-behind.result c.pick-behind.ensures).0
 
 pub slice_bounds-filled-start : goal.slice_bounds-filled-start
-slice_bounds-filled-start c = (behind_in c.is_going.result c.args.bytes.now c.pick_size-behind.result c.pick_size-behind.ensures).0
+slice_bounds-filled-start c = (behind_in c.is_going.result c.args.bytes.now c.pick-behind.result c.pick-behind.ensures).0
 
-pub filled-kept-requires : goal.filled-kept-requires
-filled-kept-requires c = part_few c.is_going.result c.args.bytes.now c.pick_size-behind.result c.pick_size-behind.ensures
+pub filled-torn-requires : goal.filled-torn-requires
+filled-torn-requires c = part_few c.is_going.result c.args.bytes.now c.pick-behind.result c.pick-behind.ensures
 
 pub overflow_sub-held : goal.overflow_sub-held
-overflow_sub-held c = (behind_in c.is_going.result c.args.bytes.now c.pick_size-behind.result c.pick_size-behind.ensures).0
+overflow_sub-held c = (behind_in c.is_going.result c.args.bytes.now c.pick-behind.result c.pick-behind.ensures).0
 
 pub returns : goal.returns
 returns c = let a = c.args in
     let pre = c.requires in
     went_on a.bytes.now a.judge a.tally pre.0 pre.1.0 pre.1.1
-    c.least-taken.result
+    c.min-taken.result
     c.judge_all-next.result
     c.stop_of-stop.result
     c.is_going.result
-    c.pick_size-behind.result
-    c.filled-kept.result
-    c.least-taken.ensures
+    c.pick-behind.result
+    c.filled-torn.result
+    c.min-taken.ensures
     c.judge_all-next.ensures.0
     c.stop_of-stop.ensures
     c.is_going.ensures
-    c.pick_size-behind.ensures
-    c.filled-kept.ensures
+    c.pick-behind.ensures
+    c.filled-torn.ensures
