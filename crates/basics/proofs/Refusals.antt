@@ -1,7 +1,8 @@
 -- A `Result` is found again from its answer in document 01's terms, so that the answer fixes it. Assumes nothing.
-use Prim.Native.Nat.{ℕ}
+use Prim.Native.Nat.{ℕ, ◌<◌}
 use mathlib.Core.Path.{◌≡◌, refl, sym, ap, ◌∙◌}
 use mathlib.Core.Bool.{cond}
+use native.Mathlib.Omega.{arith}
 use lib.Dec.{eqb}
 use Rattle.std.specs.Prelude.{Result, Ok, Err}
 use Rattle.basics.specs.Answers.{Answer, refusal_number, answered, call_number}
@@ -27,6 +28,18 @@ refusal_again Room = refl
 refusal_again Incoherent = refl
 refusal_again TooMany = refl
 refusal_again Marks = refl
+
+-- a refusal's number is none of an accepted call
+pub some_number : (r : Refusal) → 0 < refusal_number r
+some_number Length = omega arith
+some_number Place = omega arith
+some_number Value = omega arith
+some_number Code = omega arith
+some_number Bounds = omega arith
+some_number Room = omega arith
+some_number Incoherent = omega arith
+some_number TooMany = omega arith
+some_number Marks = omega arith
 
 -- no two refusals have one number
 pub one_refusal : (r s : Refusal) → refusal_number r ≡ refusal_number s → r ≡ s

@@ -13,8 +13,7 @@ use Rattle.basics.proofs.Bits.{active-bit, inactive_bit}
 use borrow.Author.Tests.{eqb-true, eqb-false}
 use Rattle.codes.specs.declared.Unit.{Unit}
 use Rattle.codes.specs.declared.Unit.TheVariants.{Byte, Halfword, Word, Two, Four, Eight, Sixteen}
-use Rattle.codes.specs.declared.Size.{Size}
-use Rattle.codes.specs.declared.Size.TheVariants.{Is, NoMeaning}
+use Rattle.std.specs.Prelude.{Option, Some, None}
 use Rattle.codes.specs.declared.Operation.{Operation}
 use Rattle.codes.specs.declared.Code.{Code}
 use Rattle.codes.specs.declared.Status.{Status}
@@ -35,7 +34,7 @@ abbrev pub Aligned : Operation → Type 0
 Aligned op = op.address % bytes_in op.unit ≡ 0
 
 -- an aligned address with its unit's mark has that unit's lines
-unit_back : (u : Unit) (a : ℕ) → a % bytes_in u ≡ 0 → unit_of (byte_unit u) (a + mark_of u) ≡ Is u
+unit_back : (u : Unit) (a : ℕ) → a % bytes_in u ≡ 0 → unit_of (byte_unit u) (a + mark_of u) ≡ Some u
 unfolding unit_of
 unit_back Byte a h = refl
 unit_back Halfword a h = rw (line_on 0 (a + 1) (omega arith))
@@ -95,9 +94,9 @@ decoding_undoes_encoding op code e =
     ap (λ (c : Code). decode_of c.tm1 c.tm0 c.ad) (sym same) ∙ code_means op h
 
 -- the low lines of AD are the mark of the unit that they say; of a code with no meaning there is nothing to say
-abbrev Marked : Bool → ℕ → Size → Type 0
-Marked tm0 ad (Is u) = (tm0 ≡ byte_unit u) × (ad % bytes_in u ≡ mark_of u)
-Marked tm0 ad NoMeaning = ad ≡ ad
+abbrev Marked : Bool → ℕ → Option Unit → Type 0
+Marked tm0 ad (Some u) = (tm0 ≡ byte_unit u) × (ad % bytes_in u ≡ mark_of u)
+Marked tm0 ad None = ad ≡ ad
 
 -- one line more of the remainder
 more_on : (k ad r : ℕ) → active k ad ≡ true → ad % 2 ^ k ≡ r → ad % 2 ^ (1 + k) ≡ 1 * 2 ^ k + r
@@ -147,11 +146,11 @@ cleared Four ad e = omega arith
 cleared Eight ad e = omega arith
 cleared Sixteen ad e = omega arith
 
-undone : (code : Code) (s : Size) → Marked code.tm0 code.ad s → (op : Operation) → meaning code.tm1 code.ad s ≡ accepted (with_lanes op) → encode_of op ≡ accepted code
-undone code (Is u) m op e =
+undone : (code : Code) (s : Option Unit) → Marked code.tm0 code.ad s → (op : Operation) → meaning code.tm1 code.ad s ≡ accepted (with_lanes op) → encode_of op ≡ accepted code
+undone code (Some u) m op e =
     let z = cleared u code.ad m.1 in
     ap encode_of (sym (ap (λ (m : Meaning). m.operation) (same-value e))) ∙ aligned _ z.0 ∙ rw (z.1, m.0)
-undone code NoMeaning m op e = absurd (never e)
+undone code None m op e = absurd (never e)
 
 -- encoding undoes decoding
 pub encoding_undoes_decoding : (code : Code) (op : Operation) → Means code op → encode_of op ≡ accepted code

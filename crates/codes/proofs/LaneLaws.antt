@@ -10,8 +10,7 @@ use Rattle.basics.proofs.Bools.{choice, by-test}
 use Rattle.basics.proofs.Bits.{one-most, bit-active, bit_inactive}
 use Rattle.codes.specs.declared.Unit.{Unit}
 use Rattle.codes.specs.declared.Unit.TheVariants.{Byte, Two, Four, Eight, Sixteen}
-use Rattle.codes.specs.declared.Size.{Size}
-use Rattle.codes.specs.declared.Size.TheVariants.{Is, NoMeaning}
+use Rattle.std.specs.Prelude.{Option, Some, None}
 use Rattle.codes.specs.Units.{bytes_in}
 use Rattle.codes.specs.Lanes.{in_unit, enclosing, carries, lanes_of}
 use Rattle.codes.specs.Start.{block_of}
@@ -53,9 +52,9 @@ words_lanes u n a e some z =
     rw (c 0 (omega arith), c 1 (omega arith), c 2 (omega arith), c 3 (omega arith))
 
 -- a block begins with a word, and has all four
-abbrev Whole : ℕ → Size → Type 0
-Whole ad (Is u) = lanes_of u (ad - ad % bytes_in u) ≡ 15
-Whole ad NoMeaning = ad ≡ ad
+abbrev Whole : ℕ → Option Unit → Type 0
+Whole ad (Some u) = lanes_of u (ad - ad % bytes_in u) ≡ 15
+Whole ad None = ad ≡ ad
 
 block_whole : (ad : ℕ) → Whole ad (block_of ad)
 unfolding block_of
@@ -70,7 +69,7 @@ block_whole ad =
     (λ _. words_lanes Four 4 (ad - ad % 16) refl (omega arith) (omega arith)))
     (λ _. words_lanes Two 2 (ad - ad % 8) refl (omega arith) (omega arith))
 
-pub block_lanes : (ad : ℕ) (u : Unit) → Is u ≡ block_of ad → lanes_of u (ad - ad % bytes_in u) ≡ 15
+pub block_lanes : (ad : ℕ) (u : Unit) → Some u ≡ block_of ad → lanes_of u (ad - ad % bytes_in u) ≡ 15
 block_lanes ad u e = subst (Whole ad) (sym e) (block_whole ad)
 
 -- ---- the lanes as bits

@@ -8,8 +8,7 @@ use Rattle.basics.specs.Lines.{bit, active, active_below}
 use Rattle.basics.specs.Answers.{accepted}
 use Rattle.codes.specs.declared.Unit.{Unit}
 use Rattle.codes.specs.declared.Unit.TheVariants.{Byte, Halfword, Word, Two, Four, Eight, Sixteen}
-use Rattle.codes.specs.declared.Size.{Size}
-use Rattle.codes.specs.declared.Size.TheVariants.{Is, NoMeaning}
+use Rattle.std.specs.Prelude.{Option, Some, None}
 use Rattle.codes.specs.declared.Code.{Code}
 use Rattle.codes.specs.declared.Meaning.{Meaning}
 use Rattle.codes.specs.Units.{bytes_in, words_in}
@@ -75,11 +74,11 @@ pub lanes_beside : (code : Code) (m : Meaning) → decode_of code.tm1 code.tm0 c
 unfolding decode_of
 lanes_beside code m = go (unit_of code.tm0 code.ad)
   where
-    go : (s : Size) → meaning code.tm1 code.ad s ≡ accepted m → m ≡ with_lanes m.operation
-    go (Is u) e =
+    go : (s : Option Unit) → meaning code.tm1 code.ad s ≡ accepted m → m ≡ with_lanes m.operation
+    go (Some u) e =
         let same = same-value e in
         sym same ∙ ap (λ (x : Meaning). with_lanes x.operation) same
-    go NoMeaning e = absurd (never e)
+    go None e = absurd (never e)
 
 -- THE WISH, of every code that has a meaning
 pub lanes_right : (code : Code) (m : Meaning) → decode_of code.tm1 code.tm0 code.ad ≡ accepted m → Carried m.operation m.lanes
@@ -102,13 +101,13 @@ no_lanes tm1 tm0 ad = go (unit_of tm0 ad) (lanes_right (record { tm1 = tm1; tm0 
     some_lanes Eight = omega arith
     some_lanes Sixteen = omega arith
 
-    go : (s : Size) → ((m : Meaning) → meaning tm1 ad s ≡ accepted m → Carried m.operation m.lanes) → ((meaning tm1 ad s).value.lanes ≡ 0) ↔ ((meaning tm1 ad s).number ≡ 4)
-    go (Is u) right =
-        let many = (right (meaning tm1 ad (Is u)).value refl).many in (
+    go : (s : Option Unit) → ((m : Meaning) → meaning tm1 ad s ≡ accepted m → Carried m.operation m.lanes) → ((meaning tm1 ad s).value.lanes ≡ 0) ↔ ((meaning tm1 ad s).number ≡ 4)
+    go (Some u) right =
+        let many = (right (meaning tm1 ad (Some u)).value refl).many in (
           λ z. let n : 0 ≡ lane_count u = sym (ap (active_below 4) z) ∙ many in absurd (omega (arith, some_lanes u)),
           λ (e : ◌≡◌ {A = ℕ} 0 4). absurd (omega arith),
         )
-    go NoMeaning right = (λ _. refl, λ _. refl)
+    go None right = (λ _. refl, λ _. refl)
 
 -- the two halfwords of a word
 pub halves : (a : ℕ) → a % 4 ≡ 0 → Halves a

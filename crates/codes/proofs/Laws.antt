@@ -9,7 +9,7 @@ use Rattle.basics.specs.Answers.{accepted, refused}
 use Rattle.basics.proofs.Bits.{bit-active, bit_inactive}
 use Rattle.codes.specs.declared.Unit.{Unit}
 use Rattle.codes.specs.declared.Unit.TheVariants.{Byte, Halfword, Word, Two, Four, Eight, Sixteen}
-use Rattle.codes.specs.declared.Size.TheVariants.{Is, NoMeaning}
+use Rattle.std.specs.Prelude.{Some, None}
 use Rattle.codes.specs.declared.Operation.{Operation}
 use Rattle.codes.specs.declared.Code.{Code}
 use Rattle.codes.specs.Units.{bytes_in, byte_unit, mark_of}
@@ -34,23 +34,23 @@ line_off k ad h = bit_inactive k ad h
 
 -- a block's length by its lines, from AD2 upwards
 module _ (ad : ℕ) where
-  pub is_two : active 2 ad ≡ false → block_of ad ≡ Is Two
+  pub is_two : active 2 ad ≡ false → block_of ad ≡ Some Two
   unfolding block_of
   is_two h = rw h
 
-  pub is_four : active 2 ad ≡ true → active 3 ad ≡ false → block_of ad ≡ Is Four
+  pub is_four : active 2 ad ≡ true → active 3 ad ≡ false → block_of ad ≡ Some Four
   unfolding block_of
   is_four h i = rw (h, i)
 
-  pub is_eight : active 2 ad ≡ true → active 3 ad ≡ true → active 4 ad ≡ false → block_of ad ≡ Is Eight
+  pub is_eight : active 2 ad ≡ true → active 3 ad ≡ true → active 4 ad ≡ false → block_of ad ≡ Some Eight
   unfolding block_of
   is_eight h i j = rw (h, i, j)
 
-  pub is_sixteen : active 2 ad ≡ true → active 3 ad ≡ true → active 4 ad ≡ true → active 5 ad ≡ false → block_of ad ≡ Is Sixteen
+  pub is_sixteen : active 2 ad ≡ true → active 3 ad ≡ true → active 4 ad ≡ true → active 5 ad ≡ false → block_of ad ≡ Some Sixteen
   unfolding block_of
   is_sixteen h i j k = rw (h, i, j, k)
 
-  pub no_length : active 2 ad ≡ true → active 3 ad ≡ true → active 4 ad ≡ true → active 5 ad ≡ true → block_of ad ≡ NoMeaning
+  pub no_length : active 2 ad ≡ true → active 3 ad ≡ true → active 4 ad ≡ true → active 5 ad ≡ true → block_of ad ≡ None
   unfolding block_of
   no_length h i j k = rw (h, i, j, k)
 

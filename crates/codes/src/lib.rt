@@ -3,7 +3,6 @@
 
 ghost use Rattle.std.specs.Prelude.{◌≡◌, ◌<◌};
 ghost use Rattle.basics.specs.Lines.{active};
-ghost use Rattle.basics.specs.Answers.{accepted};
 ghost use Rattle.codes.specs.Units.{measures_of, words_in};
 ghost use Rattle.codes.specs.Owed.{words_of};
 ghost use Rattle.codes.specs.Start.{block_of, meaning, decode_of, decoded_answer, encode_of, encoded_answer};
@@ -11,8 +10,10 @@ ghost use Rattle.codes.specs.Modes.{mode_of, mode_at, row_of};
 ghost use Rattle.codes.specs.Ack.{status_of, status_lines_of};
 ghost use Rattle.codes.specs.Parity.{parity_of};
 
+use basics::Refusal;
+
 // What a transfer moves (001, tables 2.2 and 2.3): a byte, a halfword, a word, or a block of two to sixteen words.
-#[derive(Clone, Copy)]
+#[derive(Clone, Copy, PartialEq, Eq)]
 pub enum Unit {
     Byte,
     Halfword,
@@ -24,7 +25,7 @@ pub enum Unit {
 }
 
 // What a master asks for with a START.
-#[derive(Clone, Copy)]
+#[derive(Clone, Copy, PartialEq, Eq)]
 pub struct Operation {
     pub write: bool,
     pub unit: Unit,
@@ -32,44 +33,23 @@ pub struct Operation {
 }
 
 // The lines that say so in the START's cycle.
-#[derive(Clone, Copy)]
+#[derive(Clone, Copy, PartialEq, Eq)]
 pub struct Code {
     pub tm1: bool,
     pub tm0: bool,
     pub ad: u32,
 }
 
-// The unit that a START's code names, or none: a block with AD2 to AD5 all active has no length (001, table 2.3).
-#[derive(Clone, Copy)]
-pub enum Size {
-    Is(Unit),
-    NoMeaning,
-}
-
 // What a START's lines mean: an operation, and beside it the byte lanes of the enclosing word that carry its unit (document 02, wish 4), lane k
 // in bit k. The encoder takes the operation alone, so that nobody can hand over lanes that don't fit it.
-#[derive(Clone, Copy)]
+#[derive(Clone, Copy, PartialEq, Eq)]
 pub struct Meaning {
     pub operation: Operation,
     pub lanes: u8,
 }
 
-// What a START's lines ask for, or refusal 4.
-#[derive(Clone, Copy)]
-pub enum Decoded {
-    Means(Meaning),
-    NoMeaning,
-}
-
-// The lines of an operation, or refusal 4.
-#[derive(Clone, Copy)]
-pub enum Encoded {
-    By(Code),
-    Unaligned,
-}
-
 // How a transfer ended (001, table 2.4).
-#[derive(Clone, Copy)]
+#[derive(Clone, Copy, PartialEq, Eq)]
 pub enum Status {
     Success,
     Error,
@@ -78,7 +58,7 @@ pub enum Status {
 }
 
 // The lines that say so in the ACK's cycle.
-#[derive(Clone, Copy)]
+#[derive(Clone, Copy, PartialEq, Eq)]
 pub struct StatusLines {
     pub tm1: bool,
     pub tm0: bool,
@@ -94,6 +74,7 @@ pub enum Kind {
 }
 
 // A row of table 2.2: whether it writes, what it names, and the byte of the word at which that begins.
+// Stays: without names of fields, so that a row of the table takes one line; who reads a row names its parts.
 #[derive(Clone, Copy)]
 pub struct Mode(pub bool, pub Kind, pub u8);
 
@@ -140,22 +121,24 @@ fn mode_of(tm1: bool, tm0: bool, ad: u32) -> Mode
     mode_at(row_of(tm1, tm0, ad))
 }
 
-// Table 2.3 on the low code bits, turned round so that AD2, which is looked at first, counts most: each length is then one range.
-fn block_length(ad: u32) -> Size
+// Table 2.3 on the low code bits, turned round so that AD2, which is looked at first, counts most: each length is then one range. A block with AD2
+// to AD5 all active has none.
+fn block_length(ad: u32) -> Option<Unit>
     ensures { result ≡ block_of ad }
 {
     let turned = ad / 4 % 2 * 8 + ad / 8 % 2 * 4 + ad / 16 % 2 * 2 + ad / 32 % 2;
     match turned {
-        0..=7 => Size::Is(Unit::Two),
-        8..=11 => Size::Is(Unit::Four),
-        12..=13 => Size::Is(Unit::Eight),
-        14 => Size::Is(Unit::Sixteen),
-        _ => Size::NoMeaning,
+        0..=7 => Some(Unit::Two),
+        8..=11 => Some(Unit::Four),
+        12..=13 => Some(Unit::Eight),
+        14 => Some(Unit::Sixteen),
+        _ => None,
     }
 }
 
 // What tables 2.2 and 2.3 say of a unit: its bytes, to which its address is aligned; the words that its transfer owes; whether its code has
 // TM0 active; and what the code has active among the address's low lines, which are zero, so that the sum in `encode` can't carry.
+// Stays: without names of fields, as table 2.2's rows.
 #[derive(Clone, Copy)]
 struct Measures(u32, u8, bool, u32);
 
@@ -177,59 +160,51 @@ fn measured(unit: Unit) -> Measures
 pub fn words(unit: Unit) -> u8
     ensures { result ≡ words_in unit }
 {
-    let row = measured(unit);
-    row.1
+    let Measures(_, words, _, _) = measured(unit);
+    words
 }
 
 // Every meaning that the decoder gives is made here, from the table's direction, a unit, its address and its lanes.
-fn means(write: bool, unit: Unit, address: u32, lanes: u8) -> Decoded
-    ensures { decoded_answer result ≡ accepted (record { operation = record { write = write; unit = unit; address = address }; lanes = lanes }) }
+fn means(write: bool, unit: Unit, address: u32, lanes: u8) -> Meaning
+    ensures { result ≡ record { operation = record { write = write; unit = unit; address = address }; lanes = lanes } }
 {
-    let operation = Operation {
-        write: write,
-        unit: unit,
-        address: address,
-    };
-    let meant = Meaning {
-        operation: operation,
-        lanes: lanes,
-    };
-    Decoded::Means(meant)
+    Meaning {
+        operation: Operation {
+            write,
+            unit,
+            address,
+        },
+        lanes,
+    }
 }
 
 // All four lanes of a word.
 const WHOLE: u8 = 0b1111;
 
 // A block begins where the lines below its size are zero, and has four lanes in each of its words.
-fn block(write: bool, ad: u32) -> Decoded
+fn block(write: bool, ad: u32) -> Result<Meaning, Refusal>
     ensures { decoded_answer result ≡ meaning write ad (block_of ad) }
 {
-    match block_length(ad) {
-        Size::Is(unit) => {
-            let row = measured(unit);
-            let low = ad % row.0;
-            means(write, unit, ad - low, WHOLE)
-        }
-        Size::NoMeaning => Decoded::NoMeaning,
-    }
+    let unit = block_length(ad).ok_or(Refusal::Code)?;
+    let Measures(bytes, _, _, _) = measured(unit);
+    let low = ad % bytes;
+    Ok(means(write, unit, ad - low, WHOLE))
 }
 
 // What the lines of a START ask for, and by which lanes; refusal 4 for a code with no meaning. A byte, halfword or word stands at its row's
 // offset in the word at AD, and has one lane, two or four from there on (document 02, wish 4). Nothing else in the tree works out what the low lines
 // of a START mean (docs/DECISIONS.md, "Who reads TM and AD").
-pub fn decode(code: Code) -> Decoded
+pub fn decode(code: Code) -> Result<Meaning, Refusal>
     ensures { decoded_answer result ≡ decode_of code.tm1 code.tm0 code.ad }
 {
     let ad = code.ad;
-    let mode = mode_of(code.tm1, code.tm0, ad);
-    let kind = mode.1;
-    let offset = mode.2 as u32;
-    let address = ad - ad % 4 + offset;
+    let Mode(write, kind, offset) = mode_of(code.tm1, code.tm0, ad);
+    let address = ad - ad % 4 + offset as u32;
     match kind {
-        Kind::Byte => means(mode.0, Unit::Byte, address, 0b1 << mode.2),
-        Kind::Halfword => means(mode.0, Unit::Halfword, address, 0b11 << mode.2),
-        Kind::Word => means(mode.0, Unit::Word, address, WHOLE),
-        Kind::Block => block(mode.0, ad),
+        Kind::Byte => Ok(means(write, Unit::Byte, address, 0b1 << offset)),
+        Kind::Halfword => Ok(means(write, Unit::Halfword, address, 0b11 << offset)),
+        Kind::Word => Ok(means(write, Unit::Word, address, WHOLE)),
+        Kind::Block => block(write, ad),
     }
 }
 
@@ -239,46 +214,39 @@ pub fn words_owed(tm0: bool, ad: u32) -> u8
 {
     let code = Code {
         tm1: false,
-        tm0: tm0,
-        ad: ad,
+        tm0,
+        ad,
     };
     match decode(code) {
-        Decoded::Means(meaning) => {
-            let operation = meaning.operation;
-            let unit = operation.unit;
-            words(unit)
-        }
-        Decoded::NoMeaning => 0,
+        Ok(meaning) => words(meaning.operation.unit),
+        Err(_) => 0,
     }
 }
 
 // The lines that a master drives for an operation; refusal 4 for an address not aligned to its unit.
-pub fn encode(op: Operation) -> Encoded
+pub fn encode(op: Operation) -> Result<Code, Refusal>
     ensures { encoded_answer result ≡ encode_of op }
 {
-    let unit = op.unit;
-    let address = op.address;
-    let row = measured(unit);
-    if address % row.0 == 0 {
-        let ad = address + row.3;
-        Encoded::By(Code {
-            tm1: op.write,
-            tm0: row.2,
-            ad: ad,
-        })
-    } else {
-        Encoded::Unaligned
+    let Measures(bytes, _, byte, mark) = measured(op.unit);
+    if op.address % bytes != 0 {
+        return Err(Refusal::Code);
     }
+    Ok(Code {
+        tm1: op.write,
+        tm0: byte,
+        ad: op.address + mark,
+    })
 }
 
 // How an ACK with these lines ends its transfer, and the lines of an ending (001, table 2.4).
 pub fn status_of(tm1: bool, tm0: bool) -> Status
     ensures { result ≡ status_of tm1 tm0 }
 {
-    if tm1 {
-        if tm0 { Status::Success } else { Status::Error }
-    } else {
-        if tm0 { Status::Timeout } else { Status::Again }
+    match (tm1, tm0) {
+        (true, true) => Status::Success,
+        (true, false) => Status::Error,
+        (false, true) => Status::Timeout,
+        (false, false) => Status::Again,
     }
 }
 
@@ -309,5 +277,5 @@ pub fn status_lines(status: Status) -> StatusLines
 pub fn parity(ad: u32) -> bool
     ensures { result ≡ parity_of ad }
 {
-    u32::count_ones(ad) % 2 == 1
+    ad.count_ones() % 2 == 1
 }
