@@ -2,13 +2,12 @@
 use Prim.Native.Nat.{ℕ, suc, ◌≤◌}
 use mathlib.Core.Bool.{Bool, true, false, not, cond, ◌&&◌, and-true, and-false}
 use mathlib.Core.Path.{◌≡◌, sym, ap, subst, ◌∙◌}
+use Rattle.std.specs.Prelude.{Option, Some, None}
 use native.Mathlib.Omega.{arith}
 use Rattle.basics.proofs.Bools.{by-test, push, cond-true, cond-false, choice}
 use Rattle.record.specs.declared.Record.{Record}
 use Rattle.rules.specs.declared.Judge.{Judge}
 use Rattle.rules.specs.declared.Wave.{Wave}
-use Rattle.rules.specs.declared.Owner.{Owner}
-use Rattle.rules.specs.declared.Owner.TheVariants.{Nobody, Slot}
 use Rattle.rules.specs.Bounds.{SoundOwner}
 use Rattle.rules.specs.Recording.{Lines, gap, Opened, Asked, LastOwned}
 use Rattle.rules.specs.State.{asked_of, wave_of, judge_of}
@@ -52,14 +51,14 @@ starter r i w f h r8a s nr =
     here : Starts r i
     here = record { active = s; alive = nr }
 
-    by_owner : (o : Owner) → OwnedBy r i o → (Asked r i 1 → ⊥) → StartOf r (slot_of o) i
-    by_owner Nobody none unasked = let o = r8a s unasked in absurd (none o.0 o.1)
-    by_owner (Slot slot) (m, l, same) unasked = parked m here unasked l same
+    by_owner : (o : Option ℕ) → OwnedBy r i o → (Asked r i 1 → ⊥) → StartOf r (slot_of o) i
+    by_owner None none unasked = let o = r8a s unasked in absurd (none o.0 o.1)
+    by_owner (Some slot) (m, l, same) unasked = parked m here unasked l same
 
 -- it is one of sixteen
-pub owner-most : (o : Owner) → SoundOwner o → slot_of o ≤ 15
-owner-most Nobody h = omega arith
-owner-most (Slot slot) h = h
+pub owner-most : (o : Option ℕ) → SoundOwner o → slot_of o ≤ 15
+owner-most None h = omega arith
+owner-most (Some slot) h = h
 
 pub charged-most : (w : Wave) (r : Record) (d : ℕ) → SoundOwner w.owner → r.arb ≤ 15 → charged_to w r d ≤ 15
 unfolding charged_to
@@ -77,7 +76,7 @@ unfolding charged_to
 owner-charged w r d nr =
     ap (λ (b : Bool). cond (r.start && not b && asked_of w d) r.arb (slot_of w.owner)) nr
     ∙ ap (λ (b : Bool). cond (b && asked_of w d) r.arb (slot_of w.owner)) (and-true r.start)
-    ∙ sym (push slot_of (r.start && asked_of w d) (Slot r.arb) w.owner)
+    ∙ sym (push slot_of (r.start && asked_of w d) (Some r.arb) w.owner)
 
 pub carries-next : (r : Lines) (i : ℕ) (j : Judge) → ((r i).start ≡ true → (r i).reset ≡ false → StartOf r (charged_to j.wave (r i) (gap r i)) i) → Carries r i j → Carries r (suc i) (judge_of j (r i) (gap r i))
 unfolding judge_of

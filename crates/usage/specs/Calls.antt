@@ -14,8 +14,6 @@ use Rattle.rules.specs.Bounds.{judge_bounds, tally_bounds}
 use Rattle.rules.specs.Run.{from, run_of, records_in}
 use Rattle.rules.specs.Verdict.{most_records, refused_by, verdict_of}
 use Rattle.usage.specs.declared.Accounted.{Accounted}
-use Rattle.usage.specs.declared.Share.{Share}
-use Rattle.usage.specs.declared.Share.TheVariants.{Is, OutOfBounds, NotSixteen, NoSlot}
 use Rattle.usage.specs.Charge.{account_of}
 
 -- ---- bounds
@@ -85,10 +83,3 @@ answer_by number own = cond (eqb number 0) (accepted own) (refused number zero_e
 -- the query
 unfoldable pub share_of : ℕ → Tally → List Entry → Answer Entry
 share_of slot t account = answer_by (share_refusal slot t (own_entry slot account) (length account)) (own_entry slot account)
-
--- document 01's number and values for each answer
-abbrev pub share_answer : Share → Answer Entry
-share_answer (Is e) = accepted e
-share_answer OutOfBounds = refused 5 zero_entry
-share_answer NotSixteen = refused 1 zero_entry
-share_answer NoSlot = refused 2 zero_entry

@@ -1,13 +1,11 @@
 -- What one record adds to an account, in terms of the judge's state before it: a working form. The file Using says what it comes to.
-use Rattle.std.specs.Prelude.{ℕ, ◌+◌, Bool, not, cond, ◌&&◌, ◌||◌, List, [], ◌∷◌, ◌≡◌, get_or, set, replicate}
+use Rattle.std.specs.Prelude.{ℕ, ◌+◌, Bool, not, cond, ◌&&◌, ◌||◌, List, [], ◌∷◌, ◌≡◌, get_or, set, replicate, Option, Some, None}
 use Rattle.basics.specs.Lines.{one}
 use Rattle.record.specs.declared.Record.{Record}
 use Rattle.entries.specs.declared.Entry.{Entry}
 use Rattle.entries.specs.Entries.{zero_entry}
 use Rattle.rules.specs.declared.Judge.{Judge}
 use Rattle.rules.specs.declared.Wave.{Wave}
-use Rattle.rules.specs.declared.Owner.{Owner}
-use Rattle.rules.specs.declared.Owner.TheVariants.{Nobody, Slot}
 use Rattle.rules.specs.declared.Transfer.{Transfer}
 use Rattle.rules.specs.declared.Transfer.TheVariants.{Idle, Open}
 use Rattle.rules.specs.State.{asked_of, diff_of, judge_of}
@@ -19,9 +17,9 @@ none_used = replicate 16 zero_entry
 
 -- the owner's slot. Where there is nobody no START is parked, by rule 8a, and nothing is open; a state made by hand in which something is counts as
 -- slot 0's
-abbrev pub slot_of : Owner → ℕ
-slot_of Nobody = 0
-slot_of (Slot slot) = slot
+abbrev pub slot_of : Option ℕ → ℕ
+slot_of None = 0
+slot_of (Some slot) = slot
 
 -- a START, of a record without RESET
 abbrev pub starts_in : Record → Bool

@@ -1,6 +1,7 @@
 -- An input in pieces of any length, with its account: what `fresh`, `feed` and `finish` of the crate `accounts` answer. The judge's state is that of
 -- `feeding`; the records that it has passed are charged.
 use Rattle.std.specs.Prelude.{ℕ, ◌-◌, Bool, false, cond, ◌&&◌, List, [], ◌∷◌, ◌++◌, ◌≡◌}
+use Rattle.basics.specs.Answers.{Answer, accepted, refused}
 use Rattle.basics.specs.Numbers.{lawful_limit}
 use Rattle.rules.specs.declared.Verdict.TheVariants.{OutOfBounds}
 use Rattle.rules.specs.Recording.{recording_in}
@@ -11,7 +12,6 @@ use Rattle.feeding.specs.State.{goes, torn_of, stream_bounds, fresh_stream, no_s
 use Rattle.feeding.specs.Input.{Answers, ending_of}
 use Rattle.feeding.specs.Pieces.{fed_all}
 use Rattle.usage.specs.declared.Ledger.{Ledger}
-use Rattle.usage.specs.declared.Posted.{Posted}
 use Rattle.usage.specs.declared.Closing.{Closing}
 use Rattle.usage.specs.Using.{UsedBy}
 use Rattle.usage.specs.Charge.{none_used, account_of}
@@ -26,12 +26,13 @@ ledger_bounds l = stream_bounds l.stream && entries_bounds l.stream.tally l.entr
 unfoldable pub fresh_ledger : ℕ → Ledger
 fresh_ledger limit = record { stream = fresh_stream limit; entries = none_used }
 
--- refusal 3: "hold limit not 1 to 16"; all zeros
-unfoldable pub begun_of : ℕ → Posted
-begun_of limit =
-    cond (lawful_limit limit)
-    (record { number = 0; ledger = fresh_ledger limit })
-    (record { number = 3; ledger = record { stream = no_stream; entries = none_used } })
+-- all zeros: what a refusal gives
+unfoldable pub no_ledger : Ledger
+no_ledger = record { stream = no_stream; entries = none_used }
+
+-- refusal 3: "hold limit not 1 to 16"
+unfoldable pub begun_of : ℕ → Answer Ledger
+begun_of limit = cond (lawful_limit limit) (accepted (fresh_ledger limit)) (refused 3 no_ledger)
 
 -- a piece is fed to the judge, and the records that it then has passed are charged: they stand at the front of the torn record's bytes and the piece
 unfoldable pub post_of : Ledger → List ℕ → Ledger
@@ -41,8 +42,8 @@ post_of l piece =
     record { stream = next; entries = account_of s.judge l.entries (records_in (next.tally.records - s.tally.records) (torn_of s ++ piece)) }
 
 -- refusal 5 hands the state back
-unfoldable pub posted_of : Ledger → List ℕ → Posted
-posted_of l piece = cond (ledger_bounds l) (record { number = 0; ledger = post_of l piece }) (record { number = 5; ledger = l })
+unfoldable pub posted_of : Ledger → List ℕ → Answer Ledger
+posted_of l piece = cond (ledger_bounds l) (accepted (post_of l piece)) (refused 5 l)
 
 -- what the input comes to, if it ends here; refusal 5 gives 0 for every value
 unfoldable pub closing_of : Ledger → Closing
@@ -72,12 +73,12 @@ posted_all l (piece ∷ pieces) = posted_all (post_of l piece) pieces
 -- THE PROMISE to whoever feeds an input in pieces and keeps its account, for each hold limit 1 to 16
 pub record Reckoning (limit : ℕ) : Type 0 where
   -- A fresh state is there, and is where the feeding begins.
-  pub begins : begun_of limit ≡ record { number = 0; ledger = fresh_ledger limit }
+  pub begins : begun_of limit ≡ accepted (fresh_ledger limit)
   -- The judge in it is the one that is fed without an account.
   pub judges : (pieces : List (List ℕ)) → (posted_all (fresh_ledger limit) pieces).stream ≡ fed_all (fresh_stream limit) pieces
   -- No piece is refused, and the call's answer is the next state.
   pub accepts : (pieces : List (List ℕ)) (piece : List ℕ)
-      → let l = posted_all (fresh_ledger limit) pieces in posted_of l piece ≡ record { number = 0; ledger = post_of l piece }
+      → let l = posted_all (fresh_ledger limit) pieces in posted_of l piece ≡ accepted (post_of l piece)
   -- Whatever the pieces are, the end says what the whole input comes to,
   pub says : (pieces : List (List ℕ)) → closing_of (posted_all (fresh_ledger limit) pieces) ≡ reckoning_of limit (joined pieces)
   -- which is right of the recording itself,

@@ -14,27 +14,11 @@ pub struct Accounted {
     pub entries: [Entry; 16],
 }
 
-// One slot's entry, or refusals 5, 1 and 2.
-#[derive(Clone, Copy)]
-pub enum Share {
-    Is(Entry),
-    OutOfBounds,
-    NotSixteen,
-    NoSlot,
-}
-
 // An input that is fed in pieces, with its account so far.
 #[derive(Clone, Copy)]
 pub struct Ledger {
     pub stream: Stream,
     pub entries: [Entry; 16],
-}
-
-// A call's number, 0 where it is accepted, and the state that it leaves.
-#[derive(Clone, Copy)]
-pub struct Posted {
-    pub number: u8,
-    pub ledger: Ledger,
 }
 
 // What an input comes to, and its account.
