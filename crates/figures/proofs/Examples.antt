@@ -3,7 +3,7 @@ use Prim.Native.Nat.{◌^◌}
 use mathlib.Core.Path.{◌≡◌, refl}
 use mathlib.Core.List.{[]}
 use Rattle.io.specs.Digits.{last_digits}
-use Rattle.text.specs.declared.Number.TheVariants.{Is, NotANumber}
+use Rattle.std.specs.Prelude.{Some, None}
 use Rattle.text.specs.Decimal.{spelled, decimal_of}
 use Rattle.text.specs.Numbers.{is_number}
 use Rattle.text.specs.Words.{word}
@@ -40,18 +40,18 @@ hex_digits = refl
 binary_digits : last_digits 2 4 26 ≡ word "1010"
 binary_digits = refl
 
-largest_read : figure_of (word "9999999999999999999") ≡ Is 9999999999999999999
+largest_read : figure_of (word "9999999999999999999") ≡ Some 9999999999999999999
 unfolding figure_of is_number
 largest_read = refl
 
-zeros_read : figure_of (word "007") ≡ Is 7
+zeros_read : figure_of (word "007") ≡ Some 7
 unfolding figure_of is_number
 zeros_read = refl
 
-longer_read : figure_of (word "10000000000000000000") ≡ NotANumber
+longer_read : figure_of (word "10000000000000000000") ≡ None
 unfolding figure_of is_number
 longer_read = refl
 
-empty-read : figure_of [] ≡ NotANumber
+empty-read : figure_of [] ≡ None
 unfolding figure_of is_number
 empty-read = refl

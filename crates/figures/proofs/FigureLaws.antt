@@ -9,8 +9,7 @@ use borrow.Author.Tests.{le-leb, lt-leb, leb-true, lt-ltb}
 use lib.Dec.{leb, ltb}
 use lib.ListN.{length}
 use Rattle.basics.proofs.Bools.{choice, cond-true, cond-false, by-test, and_both, both_and}
-use Rattle.text.specs.declared.Number.{Number}
-use Rattle.text.specs.declared.Number.TheVariants.{Is, NotANumber}
+use Rattle.std.specs.Prelude.{Option, Some, None}
 use Rattle.text.specs.Numbers.{is_digit, all_digits, with_digit, with_digits, value_of, is_number, number_of}
 use Rattle.text.specs.Decimal.{decimal_of}
 use Rattle.text.proofs.NumberLaws.{digit_bounds}
@@ -41,13 +40,13 @@ value_less word e h =
     omega arith
 
 -- an answer is a number
-abbrev is_it : Number → Bool
-is_it (Is n) = true
-is_it NotANumber = false
+abbrev is_it : Option ℕ → Bool
+is_it (Some n) = true
+is_it None = false
 
 -- the word's answers, from its length and from what `text::number_in` says of it
 module _ (word : List ℕ) where
-  pub long-word : 19 < length word → NotANumber ≡ figure_of word
+  pub long-word : 19 < length word → None ≡ figure_of word
   unfolding figure_of
   long-word l = sym (cond-false _ _ (ap (λ (t : Bool). is_number word && t) (lt-leb (length word) 19 l) ∙ and-false (is_number word)))
 
@@ -55,30 +54,30 @@ module _ (word : List ℕ) where
   unfolding number_of
   number-says = by-test (is_number word) (λ e. ap is_it (cond-true _ _ e) ∙ sym e) (λ e. ap is_it (cond-false _ _ e) ∙ sym e)
 
-  module _ {said : Number} (n : said ≡ number_of word) where
+  module _ {said : Option ℕ} (n : said ≡ number_of word) where
     is_number_lem : {b : Bool} → is_it said ≡ b → is_number word ≡ b
     is_number_lem e = sym number-says ∙ sym (ap is_it n) ∙ e
 
-    pub no_figure : said ≡ NotANumber → NotANumber ≡ figure_of word
+    pub no_figure : said ≡ None → None ≡ figure_of word
     unfolding figure_of
     no_figure e = sym (cond-false _ _ (ap (λ (t : Bool). t && leb (length word) 19) (is_number_lem (ap is_it e))))
 
-    module _ {v : ℕ} (e : said ≡ Is v) where
+    module _ {v : ℕ} (e : said ≡ Some v) where
       pub digits_all : all_digits word ≡ true
       unfolding is_number
       digits_all = (and_both (ltb 0 (length word)) (all_digits word) (is_number_lem (ap is_it e))).1
 
-      pub figure_is : {value : ℕ} → length word ≤ 19 → value ≡ value_of word → Is value ≡ figure_of word
+      pub figure_is : {value : ℕ} → length word ≤ 19 → value ≡ value_of word → Some value ≡ figure_of word
       unfolding figure_of
       figure_is l d =
-          ap Is d ∙ sym (cond-true _ _ (both_and (is_number word) (leb (length word) 19) (is_number_lem (ap is_it e)) (le-leb (length word) 19 l)))
+          ap Some d ∙ sym (cond-true _ _ (both_and (is_number word) (leb (length word) 19) (is_number_lem (ap is_it e)) (le-leb (length word) 19 l)))
 
 -- a figure is below 10^19
-abbrev Below : Number → Type 0
-Below (Is n) = n < 10 ^ 19
-Below NotANumber = 0 < 10 ^ 19
+abbrev Below : Option ℕ → Type 0
+Below (Some n) = n < 10 ^ 19
+Below None = 0 < 10 ^ 19
 
-pub figure_less : (word : List ℕ) {n : ℕ} → figure_of word ≡ Is n → n < 10 ^ 19
+pub figure_less : (word : List ℕ) {n : ℕ} → figure_of word ≡ Some n → n < 10 ^ 19
 unfolding figure_of is_number
 figure_less word e =
     subst Below e
@@ -107,10 +106,10 @@ module _ (word : List ℕ) (value next b : ℕ) (rest : List ℕ) (h : Left word
       ((digit_bounds b left_digit).0, omega arith)
 
 -- the reader answers the number that was written, up to nineteen digits
-pub figure_back : (n : ℕ) → n < 10 ^ 19 → figure_of (decimal_of n) ≡ Is n
+pub figure_back : (n : ℕ) → n < 10 ^ 19 → figure_of (decimal_of n) ≡ Some n
 unfolding figure_of is_number
 figure_back n l =
     let size = length (decimal_of n) in
     let number = both_and (ltb 0 size) (all_digits (decimal_of n)) (lt-ltb 0 size (decimal_length n).0) (decimal_digits n) in
     cond-true _ _ (both_and _ (leb size 19) number (le-leb size 19 (decimal_short 18 n l)))
-    ∙ ap Is (decimal_value n (omega arith))
+    ∙ ap Some (decimal_value n (omega arith))

@@ -9,7 +9,7 @@ ghost use Rattle.text.specs.Places.{moved_by, put_at};
 ghost use Rattle.figures.specs.Figures.{figure_of};
 ghost use Rattle.figures.specs.Times.{base_of, seconds_of, nanoseconds_of};
 
-use text::{Number, Place};
+use text::{Page, Place};
 
 // ---- reading
 
@@ -18,27 +18,23 @@ fn value_in(word: &[u8]) -> u64
     requires { (all_digits word.now ≡ true) × (length word.now ≤ 19) }
     ensures { result ≡ value_of word.now }
 {
-    let mut value: u64 = 0;
-    let mut next = 0;
-    while next < word.len() {
-        value = value * 10 + (word[next] - 48) as u64;
-        next += 1;
+    let mut value = 0;
+    for byte in word {
+        value = value * 10 + (byte - b'0') as u64;
     }
     value
 }
 
 // What a word says as an exact number: unlike `text::number_in`, whose numbers end at 2^32, and which says here whether the word is a number at all.
-pub fn figure_in(word: &[u8]) -> Number
+pub fn figure_in(word: &[u8]) -> Option<u64>
     ensures { result ≡ figure_of word.now }
 {
     let too_long = word.len() > 19;
     if too_long {
-        return Number::NotANumber;
+        return None;
     }
-    match text::number_in(word) {
-        Number::Is(_) => Number::Is(value_in(word)),
-        Number::NotANumber => Number::NotANumber,
-    }
+    text::number_in(word)?;
+    Some(value_in(word))
 }
 
 // ---- digits
@@ -65,7 +61,7 @@ fn glyph_of(d: u64) -> u8
     requires { d < 16 }
     ensures { result ≡ hex_digit_ascii d }
 {
-    if d < 10 { 48 + d as u8 } else { 87 + d as u8 }
+    if d < 10 { b'0' + d as u8 } else { 87 + d as u8 }
 }
 
 // Spells the last digits of n at the end of 64 bytes, the last one first.
@@ -73,28 +69,19 @@ fn spell(glyphs: &mut [u8], base: u64, first: usize, n: u64)
     requires { (length glyphs.old ≡ 64) × (1 < base) × (base ≤ 16) × (first ≤ 64) }
     ensures { drop first glyphs.new ≡ last_digits base (64 - first) n }
 {
-    let mut at = 64;
     let mut rest = n;
-    while at > first {
-        at -= 1;
+    for at in (first..64).rev() {
         glyphs[at] = glyph_of(rest % base);
         rest /= base;
     }
-}
-
-// A number of 64 bits has at most 64 digits in any base.
-fn at_most_64(width: usize) -> usize
-    ensures { result ≡ min width 64 }
-{
-    if width < 64 { width } else { 64 }
 }
 
 // Puts the last digits of n in a base at the place, so many of them and at most 64, with zeros in front: all, or nothing where they do not fit.
 pub fn put_digits(buffer: &mut [u8], place: Place, base: Base, width: usize, n: u64) -> Place
     ensures { (result ≡ moved_by (length buffer.old) place (length (last_digits (base_of base) (min width 64) n))) × (buffer.new ≡ put_at buffer.old place (last_digits (base_of base) (min width 64) n)) }
 {
-    let mut glyphs = [0u8; 64];
-    let first = 64 - at_most_64(width);
+    let mut glyphs = [0; 64];
+    let first = 64 - width.min(64);
     spell(&mut glyphs, base_of(base), first, n);
     text::put_word(buffer, place, &glyphs[first..])
 }

@@ -11,7 +11,7 @@ use lib.Seq.{append_snoc, set_split, drop_at, length-take-le}
 use Rattle.basics.proofs.Bools.{choice, both_and}
 use Rattle.text.specs.Decimal.{digit, spelled, decimal_of}
 use Rattle.text.specs.Numbers.{all_digits, value_of, capped, number_of}
-use Rattle.text.specs.declared.Number.TheVariants.{Is}
+use Rattle.std.specs.Prelude.{Some}
 use Rattle.text.proofs.NumberLaws.{digit_is, all_append, digits_append, capped_is, number_is}
 
 -- what holds of one digit, where the number is below 10, and of one more behind the others, holds of the digits
@@ -84,11 +84,11 @@ pub decimal_only : (m n : ℕ) → m < 10 ^ 20 → n < 10 ^ 20 → decimal_of m 
 decimal_only m n l h e = sym (decimal_value m l) ∙ ap value_of e ∙ decimal_value n h
 
 -- and the reader answers the number that was written
-pub number_back : (n : ℕ) → n ≤ 2 ^ 32 → number_of (decimal_of n) ≡ Is n
+pub number_back : (n : ℕ) → n ≤ 2 ^ 32 → number_of (decimal_of n) ≡ Some n
 number_back n h =
     number_is (decimal_of n) (decimal_length n).0 (decimal_digits n)
-    ∙ ap (λ (v : ℕ). Is (capped v)) (decimal_value n (omega arith))
-    ∙ ap Is (capped_is n h)
+    ∙ ap (λ (v : ℕ). Some (capped v)) (decimal_value n (omega arith))
+    ∙ ap Some (capped_is n h)
 
 -- a store at a place and what is behind it
 drop_set : (l : List ℕ) (i v : ℕ) → i < length l → drop i (set l i v) ≡ v ∷ drop (suc i) l

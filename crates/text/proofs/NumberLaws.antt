@@ -10,7 +10,7 @@ use lib.ListN.{length}
 use Rattle.basics.proofs.Bools.{cond-true, cond-false, and_both, both_and}
 use Rattle.text.specs.Decimal.{digit}
 use Rattle.text.specs.Numbers.{is_digit, all_digits, with_digit, with_digits, value_of, capped, is_number, number_of}
-use Rattle.text.specs.declared.Number.TheVariants.{Is, NotANumber}
+use Rattle.std.specs.Prelude.{Some, None}
 
 pub digit_bounds : (b : ℕ) → is_digit b ≡ true → (48 ≤ b) × (b ≤ 57)
 digit_bounds b e =
@@ -52,15 +52,15 @@ capped-digits m n (b ∷ bs) e = capped-digits (with_digit m b) (with_digit n b)
 
 -- the word's two answers
 module _ (word : List ℕ) where
-  pub number_is : 0 < length word → all_digits word ≡ true → number_of word ≡ Is (capped (value_of word))
+  pub number_is : 0 < length word → all_digits word ≡ true → number_of word ≡ Some (capped (value_of word))
   unfolding number_of is_number
   number_is l e = cond-true _ _ (both_and (ltb 0 (length word)) (all_digits word) (lt-ltb 0 (length word) l) e)
 
-  pub no_number : all_digits word ≡ false → NotANumber ≡ number_of word
+  pub no_number : all_digits word ≡ false → None ≡ number_of word
   unfolding number_of is_number
   no_number e = sym (cond-false _ _ (ap (λ (t : Bool). ltb 0 (length word) && t) e ∙ and-false (ltb 0 (length word))))
 
-  pub empty-word : length word ≡ 0 → NotANumber ≡ number_of word
+  pub empty-word : length word ≡ 0 → None ≡ number_of word
   unfolding number_of is_number
   empty-word e = rw e
 
@@ -75,8 +75,8 @@ module _ (word : List ℕ) (value : ℕ) where
     capped-digits _ _ rest (capped_is _ (capped-most (with_digit value b))) ∙ h.1,
   )
 
-  pub left_other : (b : ℕ) (rest : List ℕ) → is_digit b ≡ false → Left word value (b ∷ rest) → NotANumber ≡ number_of word
+  pub left_other : (b : ℕ) (rest : List ℕ) → is_digit b ≡ false → Left word value (b ∷ rest) → None ≡ number_of word
   left_other b rest d h = no_number word (sym h.0 ∙ ap (λ (t : Bool). t && all_digits rest) d)
 
-  pub left_none : value ≤ 2 ^ 32 → 0 < length word → Left word value [] → Is value ≡ number_of word
-  left_none v l h = sym (number_is word l (sym h.0) ∙ ap Is (sym h.1 ∙ capped_is value v))
+  pub left_none : value ≤ 2 ^ 32 → 0 < length word → Left word value [] → Some value ≡ number_of word
+  left_none v l h = sym (number_is word l (sym h.0) ∙ ap Some (sym h.1 ∙ capped_is value v))

@@ -63,7 +63,7 @@ module _ (buffer : List ℕ) (p : Place) (bytes : List ℕ) where
   put_nowhere e = cond-false _ _ e
 
   -- a copy of all the bytes
-  put_paste : paste buffer p.at bytes (length bytes) ≡ take p.at buffer ++ bytes ++ drop (p.at + length bytes) buffer
+  pub put_paste : paste buffer p.at bytes (length bytes) ≡ take p.at buffer ++ bytes ++ drop (p.at + length bytes) buffer
   put_paste = rw take-length
 
   -- the buffer keeps its length, whatever is put

@@ -1,7 +1,5 @@
 -- Numbers read from text.
-use Rattle.std.specs.Prelude.{ℕ, ◌+◌, ◌*◌, ◌-◌, ◌^◌, min, Bool, true, cond, ◌&&◌, List, [], ◌∷◌, ltb, leb, length}
-use Rattle.text.specs.declared.Number.{Number}
-use Rattle.text.specs.declared.Number.TheVariants.{Is, NotANumber}
+use Rattle.std.specs.Prelude.{ℕ, ◌+◌, ◌*◌, ◌-◌, ◌^◌, min, Bool, true, cond, ◌&&◌, List, [], ◌∷◌, ltb, leb, length, Option, Some, None}
 
 -- the byte is one of '0' to '9'
 abbrev pub is_digit : ℕ → Bool
@@ -33,5 +31,5 @@ unfoldable pub is_number : List ℕ → Bool
 is_number bs = ltb 0 (length bs) && all_digits bs
 
 -- what a word says as a number
-unfoldable pub number_of : List ℕ → Number
-number_of bs = cond (is_number bs) (Is (capped (value_of bs))) NotANumber
+unfoldable pub number_of : List ℕ → Option ℕ
+number_of bs = cond (is_number bs) (Some (capped (value_of bs))) None

@@ -26,12 +26,6 @@ impl Place {
     }
 }
 
-#[derive(Clone, Copy)]
-pub enum Number {
-    Is(u64),
-    NotANumber,
-}
-
 // Without the sum of the place and the bytes, which may not fit a usize.
 fn has_room(size: usize, place: Place, bytes: usize) -> bool
     ensures { result ≡ fits size place bytes }
@@ -42,26 +36,13 @@ fn has_room(size: usize, place: Place, bytes: usize) -> bool
     place.room & (place.at <= size - bytes)
 }
 
-// The bytes before the place and behind the word stay as they were.
-fn copy_at(buffer: &mut [u8], at: usize, word: &[u8])
-    requires { at + length word.now ≤ length buffer.old }
-    ensures { buffer.new ≡ take at buffer.old ++ word.now ++ drop (at + length word.now) buffer.old }
-{
-    let mut i = 0;
-    while i < word.len() {
-        buffer[at + i] = word[i];
-        i += 1;
-    }
-}
-
 // The place behind so many bytes more.
 fn moved(size: usize, place: Place, bytes: usize) -> Place
     ensures { result ≡ moved_by size place bytes }
 {
-    let at = place.at;
     if has_room(size, place, bytes) {
         Place {
-            at: at + bytes,
+            at: place.at + bytes,
             room: true,
         }
     } else {
@@ -75,7 +56,7 @@ pub fn put_word(buffer: &mut [u8], place: Place, word: &[u8]) -> Place
 {
     let end = moved(buffer.len(), place, word.len());
     if end.room {
-        copy_at(buffer, place.at, word);
+        buffer[place.at..end.at].copy_from_slice(word);
     }
     end
 }
@@ -84,7 +65,7 @@ fn digit_of(d: u64) -> u8
     requires { d < 10 }
     ensures { result ≡ digit d }
 {
-    48 + d as u8
+    b'0' + d as u8
 }
 
 // Spells n at the end of twenty bytes, the last digit first, and answers where it begins.
@@ -119,10 +100,13 @@ pub fn put_named(buffer: &mut [u8], place: Place, name: &[u8], n: u64) -> Place
     both
 }
 
+// Every number over it counts as it.
+const LARGEST: u64 = 1 << 32;
+
 fn is_digit(byte: u8) -> bool
     ensures { result ≡ is_digit byte }
 {
-    (48 <= byte) & (byte <= 57)
+    matches!(byte, b'0'..=b'9')
 }
 
 // One digit more behind a number, which is 2^32 at most before and after.
@@ -130,31 +114,24 @@ fn with_digit(n: u64, byte: u8) -> u64
     requires { (n ≤ 2 ^ 32) × (is_digit byte ≡ true) }
     ensures { (result ≡ capped (with_digit n byte)) × (result ≤ 2 ^ 32) }
 {
-    let longer = n * 10 + (byte - 48) as u64;
-    if longer <= 4294967296 {
-        longer
-    } else {
-        4294967296
-    }
+    let longer = n * 10 + (byte - b'0') as u64;
+    longer.min(LARGEST)
 }
 
 // What a word says as a number.
-pub fn number_in(word: &[u8]) -> Number
+pub fn number_in(word: &[u8]) -> Option<u64>
     ensures { result ≡ number_of word.now }
 {
-    if word.len() == 0 {
-        return Number::NotANumber;
+    let empty = word.is_empty();
+    if empty {
+        return None;
     }
-    let mut value: u64 = 0;
-    let mut next = 0;
-    while next < word.len() {
-        let byte = word[next];
-        if is_digit(byte) {
-            value = with_digit(value, byte);
-            next += 1;
-        } else {
-            return Number::NotANumber;
+    let mut value = 0;
+    for byte in word {
+        if !is_digit(*byte) {
+            return None;
         }
+        value = with_digit(value, *byte);
     }
-    Number::Is(value)
+    Some(value)
 }

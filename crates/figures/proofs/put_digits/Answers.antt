@@ -5,4 +5,4 @@ use Rattle.figures.proofs.put_digits.Goals as goal
 
 pub returns : goal.returns
 returns c = let a = c.args in
-    put_as a.buffer.now a.place (spelled_is c.spell.new.glyphs (base_of a.base) a.width a.n c.spell.auto.glyphs c.at_most_64-first.ensures c.base_of.ensures.0 c.spell.ensures) c.put_word.ensures
+    put_as a.buffer.now a.place (spelled_is c.spell.new.glyphs (base_of a.base) a.width a.n c.spell.auto.glyphs c.min-first.ensures c.base_of.ensures.0 c.spell.ensures) c.put_word.ensures

@@ -7,7 +7,4 @@ use Rattle.io.specs.Digits.{last_digits}
 use Rattle.figures.proofs.spell.Given as goal
 
 abbrev pub invariant-loop-at : goal.invariant-loop-at
-invariant-loop-at l = (l.first ≤ l.at) × (l.at ≤ 64) × (length l.glyphs ≡ 64) × (last_digits l.base (l.at - l.first) l.rest ++ drop l.at l.glyphs ≡ last_digits l.base (64 - l.first) l.n)
-
-abbrev pub decreases-loop-at : goal.decreases-loop-at
-decreases-loop-at l = l.at
+invariant-loop-at l = (l.first ≤ l.at) × (length l.glyphs ≡ 64) × (last_digits l.base (l.at - l.first) l.rest ++ drop l.at l.glyphs ≡ last_digits l.base (64 - l.first) l.n)
