@@ -8,11 +8,11 @@ use lib.ListN.{length, take}
 use Rattle.text.specs.declared.Place.{Place}
 use Rattle.text.specs.Places.{front, moved_by, put_at, Holds}
 use Rattle.text.proofs.PlaceLaws.{holds-front, holds_more}
-use Rattle.reading.specs.declared.Said.{Said}
-use Rattle.reading.specs.declared.Said.TheVariants.{Page}
-use Rattle.reading.specs.Reads.{Feeder, Standing, ReadOut}
-use Rattle.reading.specs.Pages.{Behind, nothing, anything, Prints, unlawful, told, unread}
-use Rattle.reading.proofs.Reading.{Piecewise, heard-holds}
+use Rattle.std.specs.Prelude.{Result, Ok, Err}
+use Rattle.reading.specs.declared.CantRead.{CantRead}
+use Rattle.reading.specs.Reads.{Feeder, Standing, ReadOut, Piecewise}
+use Rattle.reading.specs.Pages.{Behind, nothing, anything, Prints, Telling, unlawful, told, unread}
+use Rattle.reading.proofs.Reading.{heard-holds}
 
 -- ---- a text that fits, put to the front
 pub holds_put : (text after bytes : List ℕ) (q : Place) → length bytes ≤ length text → q ≡ moved_by (length text) front (length bytes) → after ≡ put_at text front bytes → Holds after q bytes
@@ -28,18 +28,12 @@ module _ (text bytes : List ℕ) (q : Place) (h : Holds text q bytes) where
   page_says = ap (λ (x : Place). take x.at text) h.place ∙ h.front
 
 -- ---- an input that was read
--- what a program has to know of its text: the one of a state is that of all the bytes that were fed, and where no more counts, what is behind them
--- changes nothing
-pub record Telling {S : Type 0} (p : Feeder S) (begun : S) (page : List ℕ → List ℕ) (text : S → List ℕ) : Type 0 where
-  pub says : (bytes : List ℕ) → text (p.fed begun bytes) ≡ page bytes
-  pub rest : (bytes rest : List ℕ) → p.going (p.fed begun bytes) ≡ false → page (bytes ++ rest) ≡ page bytes
-
 module _ {S : Type 0} (p : Feeder S) (begun : S) (laws : Piecewise p begun) (page : List ℕ → List ℕ) (say : S → List ℕ) (tells : Telling p begun page say) where
   behind-same : (i : Standing S) (bytes rest : List ℕ) → i.state ≡ p.fed begun bytes → Behind p i rest → page (bytes ++ rest) ≡ page bytes
   behind-same i bytes _ e nothing = ap page (append-nil bytes)
   behind-same i bytes _ e (anything rest ended) = tells.rest bytes rest (ap p.going (sym e) ∙ ended)
 
-  pub told-says : (lawful : Bool) → lawful ≡ true → (i : Standing S) (text : List ℕ) (q : Place) → i.failed ≡ false → ReadOut p begun i → Holds text q (say i.state) → Prints p begun lawful page text (Page q.at)
+  pub told-says : (lawful : Bool) → lawful ≡ true → (i : Standing S) (text : List ℕ) (q : Place) → i.failed ≡ false → ReadOut p begun i → Holds text q (say i.state) → Prints p begun lawful page text (Ok q.at)
   told-says lawful is i text q sound out h =
       let bytes : List ℕ = out.bytes in
       let holds = heard-holds p begun laws bytes i out.heard in
@@ -47,7 +41,7 @@ module _ {S : Type 0} (p : Feeder S) (begun : S) (laws : Piecewise p begun) (pag
       (λ rest b. page_says text _ q h ∙ ap say holds.state ∙ tells.says bytes ∙ sym (behind-same i bytes rest holds.state b))
 
 -- ---- what is printed stands in the text
-pub page_within : {S : Type 0} (p : Feeder S) (begun : S) (lawful : Bool) (page : List ℕ → List ℕ) (text : List ℕ) (said : Said) (n : ℕ) → Prints p begun lawful page text said → said ≡ Page n → n ≤ length text
+pub page_within : {S : Type 0} (p : Feeder S) (begun : S) (lawful : Bool) (page : List ℕ → List ℕ) (text : List ℕ) (said : Result ℕ CantRead) (n : ℕ) → Prints p begun lawful page text said → said ≡ Ok n → n ≤ length text
 page_within p begun lawful page text _ n (unlawful m within _ _) e = let same : m ≡ n = cc in omega arith
 page_within p begun lawful page text _ n (told m i within _ _ _ _) e = let same : m ≡ n = cc in omega arith
-page_within p begun lawful page text _ n (unread i _ _ _) e = let z : ◌≡◌ {A = ℕ} 0 1 = cc in absurd (omega arith)
+page_within p begun lawful page text _ n (unread why i _ _ _) e = let z : ◌≡◌ {A = ℕ} 0 1 = cc in absurd (omega arith)

@@ -11,20 +11,14 @@ use borrow.Author.Tests.{eq-eqb, ne_eqb, eqb-true, eqb-false}
 use Rattle.basics.proofs.Bools.{by-test, cond-true, cond-false, not-true}
 use Rattle.io.specs.Counts.{clamp_len}
 use Rattle.reading.specs.declared.Brought.{Brought}
-use Rattle.reading.specs.Reads.{Read, fails, brought_by, brought, Feeder, Standing, started, ended_by, fed_by, taken_in, after_read, Heard, start, later, ReadOut, bytes_most}
+use Rattle.reading.specs.Reads.{Read, fails, brought_by, brought, Feeder, Standing, started, ended_by, fed_by, taken_in, after_read, Heard, start, later, ReadOut, Piecewise, bytes_most}
 
 -- ---- a read
 pub taken_as : (r : Read) (n : ℕ) (got : ℤ) → got ≡ r.got → n ≡ clamp_len got (length r.buffer) → ◌≡◌ {A = Brought} (record { size = n; failed = fails got }) (brought_by r)
 taken_as r n got e ne =
     ap (λ (k : ℕ). record { size = k; failed = fails got }) ne ∙ ap (λ (z : ℤ). record { size = clamp_len z (length r.buffer); failed = fails z }) e
 
--- ---- what a program has to know of what it feeds: pieces come to all their bytes at once, and only so many bytes count
-pub record Piecewise {S : Type 0} (p : Feeder S) (begun : S) : Type 0 where
-  pub goes : p.going begun ≡ true
-  pub none : p.fed begun [] ≡ begun
-  pub more : (bytes piece : List ℕ) → p.fed (p.fed begun bytes) piece ≡ p.fed begun (bytes ++ piece)
-  pub within : (bytes : List ℕ) → p.going (p.fed begun bytes) ≡ true → length bytes < bytes_most
-
+-- ---- what is fed
 module _ {S : Type 0} (p : Feeder S) where
   pub taken_none : (i : Standing S) (f : Bool) (bytes : List ℕ) → length bytes ≡ 0 → taken_in p i f bytes ≡ ended_by i f
   unfolding taken_in

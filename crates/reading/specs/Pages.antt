@@ -1,7 +1,6 @@
 -- What a program prints, from the bytes that it read.
-use Rattle.std.specs.Prelude.{ℕ, ◌≤◌, Bool, true, false, List, [], ◌++◌, ◌≡◌, length, take}
-use Rattle.reading.specs.declared.Said.{Said}
-use Rattle.reading.specs.declared.Said.TheVariants.{Page, CantRead}
+use Rattle.std.specs.Prelude.{ℕ, ◌≤◌, Bool, true, false, List, [], ◌++◌, ◌≡◌, length, take, Result, Ok, Err}
+use Rattle.reading.specs.declared.CantRead.{CantRead}
 use Rattle.reading.specs.Reads.{Feeder, Standing, ReadOut}
 
 -- what the input may have behind the bytes that were read: nothing, the last read being its end; or anything, where no more of it counts
@@ -11,8 +10,14 @@ pub data Behind {S : Type 0} (p : Feeder S) (i : Standing S) : List ℕ → Type
 
 -- THE PROMISE of a program whose words are lawful or not, and whose text for all the bytes of an input is `page`: the text that it prints is that of
 -- the whole input, what it did not read of it included; and after a read that failed it prints none. Unlawful words have one text, whatever the input
-pub data Prints {S : Type 0} (p : Feeder S) (begun : S) (lawful : Bool) (page : List ℕ → List ℕ) (text : List ℕ) : Said → Type 0 where
-  unlawful : (n : ℕ) → n ≤ length text → lawful ≡ false → ((bytes : List ℕ) → take n text ≡ page bytes) → Prints p begun lawful page text (Page n)
+pub data Prints {S : Type 0} (p : Feeder S) (begun : S) (lawful : Bool) (page : List ℕ → List ℕ) (text : List ℕ) : Result ℕ CantRead → Type 0 where
+  unlawful : (n : ℕ) → n ≤ length text → lawful ≡ false → ((bytes : List ℕ) → take n text ≡ page bytes) → Prints p begun lawful page text (Ok n)
   told : (n : ℕ) (i : Standing S) → n ≤ length text → lawful ≡ true → (out : ReadOut p begun i) → i.failed ≡ false
-      → ((rest : List ℕ) → Behind p i rest → take n text ≡ page (out.bytes ++ rest)) → Prints p begun lawful page text (Page n)
-  unread : (i : Standing S) → lawful ≡ true → ReadOut p begun i → i.failed ≡ true → Prints p begun lawful page text CantRead
+      → ((rest : List ℕ) → Behind p i rest → take n text ≡ page (out.bytes ++ rest)) → Prints p begun lawful page text (Ok n)
+  unread : (why : CantRead) (i : Standing S) → lawful ≡ true → ReadOut p begun i → i.failed ≡ true → Prints p begun lawful page text (Err why)
+
+-- what a program has to know of its text: the one of a state is that of all the bytes that were fed, and where no more counts, what is behind them
+-- changes nothing
+pub record Telling {S : Type 0} (p : Feeder S) (begun : S) (page : List ℕ → List ℕ) (say : S → List ℕ) : Type 0 where
+  pub says : (bytes : List ℕ) → say (p.fed begun bytes) ≡ page bytes
+  pub rest : (bytes rest : List ℕ) → p.going (p.fed begun bytes) ≡ false → page (bytes ++ rest) ≡ page bytes

@@ -1,10 +1,11 @@
 -- What a program makes of its reads. No contract can say which bytes a call of the system reads: a read is taken as what it answers and the
 -- buffer that it leaves, and all that follows from these is proved.
-use Rattle.std.specs.Prelude.{ℕ, ◌+◌, ◌*◌, Bool, true, false, cond, List, [], ◌++◌, ◌≡◌, ℤ, pos, length, take, eqb}
+use Rattle.std.specs.Prelude.{ℕ, ◌+◌, ◌*◌, ◌<◌, Bool, true, false, cond, List, [], ◌++◌, ◌≡◌, ℤ, pos, length, take, eqb}
 use Rattle.std.specs.Int.Signed.{lt_z}
 use Rattle.io.specs.Counts.{clamp_len}
 use Rattle.rules.specs.Verdict.{most_records}
 use Rattle.reading.specs.declared.Brought.{Brought}
+use Rattle.reading.specs.declared.Input.{Input}
 
 -- ---- a read
 -- one call of `read`: its answer, negative where it failed, and the buffer after it
@@ -30,10 +31,8 @@ pub record Feeder (S : Type 0) : Type 0 where
   pub going : S → Bool
 
 -- a program's input so far: the state, whether to read on, and whether the last read failed
-pub record Standing (S : Type 0) : Type 0 where
-  pub state : S
-  pub more : Bool
-  pub failed : Bool
+abbrev pub Standing : Type 0 → Type 0
+Standing S = Input S
 
 abbrev pub started : {S : Type 0} → S → Standing S
 started begun = record { state = begun; more = true; failed = false }
@@ -67,3 +66,10 @@ pub record ReadOut {S : Type 0} (p : Feeder S) (begun : S) (i : Standing S) : Ty
 -- as many bytes as one record past 2^30 has
 abbrev pub bytes_most : ℕ
 bytes_most = (most_records + 1) * 16
+
+-- what a program has to know of what it feeds: pieces come to all their bytes at once, and only so many bytes count
+pub record Piecewise {S : Type 0} (p : Feeder S) (begun : S) : Type 0 where
+  pub goes : p.going begun ≡ true
+  pub none : p.fed begun [] ≡ begun
+  pub more : (bytes piece : List ℕ) → p.fed (p.fed begun bytes) piece ≡ p.fed begun (bytes ++ piece)
+  pub within : (bytes : List ℕ) → p.going (p.fed begun bytes) ≡ true → length bytes < bytes_most

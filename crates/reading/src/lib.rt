@@ -1,16 +1,19 @@
-// What the programs share that read a recording on standard input: a read as a value, how many reads are enough, what there is to say, and the hold
-// limit that they are given.
+// What the programs share that read a recording on standard input: a read as a value, the loop that feeds what the reads bring, what there is to say,
+// and the hold limit that they are given.
 #![tactic(auto)]
 
-ghost use Rattle.std.specs.Prelude.{◌≡◌, min, ℤ};
+ghost use Rattle.std.specs.Prelude.{◌≡◌, ◌≤◌, Bool, true, List, length, min, ℕ, ℤ};
+ghost use Rattle.std.specs.Io.KnownBytes.{Appends};
 ghost use Rattle.io.specs.Counts.{IsPrefixLen};
-ghost use Rattle.reading.specs.Reads.{brought_by};
+ghost use Rattle.reading.specs.Reads.{brought_by, Feeder, taken_in, after_read, Piecewise, ReadOut};
+ghost use Rattle.reading.specs.Pages.{Telling, Prints};
+ghost use Rattle.text.specs.Places.{front, moved_by, put_at};
 ghost use Rattle.reading.specs.Words.{limit_given};
 
 use rules::Judge;
 use std::env::{Env, FillError};
-use std::io::{Read, Stdin};
-use text::Number;
+use std::io::{Read, Stdin, Write};
+use text::{Number, Place};
 
 // The descriptors of a program's input and of what it writes.
 pub const STDIN: i32 = 0;
@@ -29,11 +32,36 @@ pub struct Brought {
     pub failed: bool,
 }
 
-// What a program has to say: the text that is to be printed, so many bytes of it, or that standard input can't be read.
+// That standard input can't be read: what a program says in place of a text.
+#[derive(Clone, Copy, PartialEq, Eq)]
+pub struct CantRead;
+
+// What is fed with the bytes of an input: what a piece of them makes of its state, whether more of the input counts after that, and the text that there is
+// for it in the end.
+pub trait Machine {
+    type State: Copy;
+
+    ghost feeder: { Feeder Self.State };
+
+    ghost says: { Self.State → List ℕ };
+
+    fn feed(state: Self::State, piece: &[u8]) -> Self::State
+        ensures { result ≡ feeder.fed state piece.now };
+
+    fn wants_more(state: &Self::State) -> bool
+        ensures { result ≡ feeder.going state.now };
+
+    // Puts the text to the page's front.
+    fn put_text(state: Self::State, page: &mut [u8]) -> Place
+        ensures { (result ≡ moved_by (length page.old) front (length (says state))) × (page.new ≡ put_at page.old front (says state)) };
+}
+
+// A program's input so far: the state, whether to read on, and whether the last read failed.
 #[derive(Clone, Copy)]
-pub enum Said {
-    Page(usize),
-    CantRead,
+pub struct Input<S> {
+    pub state: S,
+    pub more: bool,
+    pub failed: bool,
 }
 
 // What a read's answer and the buffer after it come to. That the bytes stand in the buffer follows, and is said so that `&buffer[..size]` asks for
@@ -42,9 +70,8 @@ fn taken(got: isize, buffer: &[u8]) -> Brought
     ensures value { result ≡ brought_by (record { got = got; buffer = buffer.now }) }
     ensures prefix_len { IsPrefixLen result.size buffer.now }
 {
-    let size = io::count(got, buffer);
     Brought {
-        size: size,
+        size: io::count(got, buffer),
         failed: got < 0,
     }
 }
@@ -59,6 +86,94 @@ pub fn read_once(mut input: Stdin, buffer: &mut [u8]) -> Brought
         Err(_) => -1,
     };
     taken(got, buffer)
+}
+
+// Takes in the bytes that a read brought: none at the input's end, or where it failed.
+fn take_in<M: Machine>(bytes: &[u8], failed: bool, input: Input<M::State>) -> Input<M::State>
+    ensures { result ≡ taken_in M.feeder input failed bytes.now }
+{
+    if bytes.is_empty() {
+        return Input {
+            more: false,
+            failed,
+            ..input
+        };
+    }
+    let state = M::feed(input.state, bytes);
+    Input {
+        state,
+        more: M::wants_more(&state),
+        failed: false,
+    }
+}
+
+// Reads once more.
+fn read_more<M: Machine>(
+    stdin: Stdin,
+    buffer: &mut [u8],
+    input: Input<M::State>,
+) -> Input<M::State>
+    ensures { (got : ℤ) × (result ≡ after_read M.feeder input (record { got = got; buffer = buffer.new })) }
+{
+    let got = read_once(stdin, buffer);
+    take_in::<M>(&buffer[..got.size], got.failed, input)
+}
+
+// Reads until it need read no more.
+pub fn read_all<M: Machine>(
+    stdin: Stdin,
+    buffer: &mut [u8],
+    begun: M::State,
+) -> Input<M::State>
+    ensures { (fresh : M.State) → begun ≡ fresh → Piecewise M.feeder fresh → ReadOut M.feeder fresh result }
+{
+    let mut input = Input {
+        state: begun,
+        more: true,
+        failed: false,
+    };
+    for turn in 0..TURNS {
+        if !input.more {
+            return input;
+        }
+        input = read_more::<M>(stdin, buffer, input);
+    }
+    input
+}
+
+// Makes the text for an input that has been read: so many of the page's first bytes. There is none after a read that failed: what was not read may change it.
+pub fn told<M: Machine>(input: Input<M::State>, page: &mut [u8]) -> Result<usize, CantRead>
+    ensures { (begun : M.State) (lawful : Bool) (text : List ℕ → List ℕ) → lawful ≡ true → Piecewise M.feeder begun → Telling M.feeder begun text M.says
+        → length (M.says input.state) ≤ length page.old → ReadOut M.feeder begun input → Prints M.feeder begun lawful text page.new result }
+{
+    if input.failed {
+        return Err(CantRead);
+    }
+    Ok(M::put_text(input.state, page).at)
+}
+
+// Writes a line to standard error, and answers whether all of it was written.
+pub fn complain<E: Write>(err: &mut E, line: &[u8]) -> bool
+    ensures { result ≡ true → Appends (E.contents err.old) (E.contents err.new) line.now }
+{
+    err.write_all(line).is_ok()
+}
+
+// Writes a page to standard output, and complains where it can't. Answers whether all of the page was written.
+pub fn print<O: Write, E: Write>(
+    out: &mut O,
+    err: &mut E,
+    page: &[u8],
+    complaint: &[u8],
+) -> bool
+    ensures page { result ≡ true → Appends (O.contents out.old) (O.contents out.new) page.now }
+    ensures silent { result ≡ true → err.new ≡ err.old }
+{
+    let printed = out.write_all(page).is_ok();
+    if !printed {
+        complain(err, complaint);
+    }
+    printed
 }
 
 // How many words the program was started with, its own name among them.
@@ -76,10 +191,7 @@ pub fn words_given(rt: &impl Env) -> usize {
 pub fn word_given(rt: &impl Env, i: usize, word: &mut [u8]) -> usize
     ensures { IsPrefixLen result word.new }
 {
-    match rt.arg(i, word) {
-        Ok(n) => n,
-        Err(_) => 0,
-    }
+    rt.arg(i, word).unwrap_or(0)
 }
 
 // A number of a program's words as the library takes it: any over 255 is as unlawful as 255.

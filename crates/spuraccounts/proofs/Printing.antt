@@ -19,13 +19,13 @@ use Rattle.printed.specs.Lines.{refused_line}
 use Rattle.printed.proofs.LineLaws.{refusal-most}
 use Rattle.accountlines.specs.Lines.{closing_lines, accounts_page}
 use Rattle.accountlines.proofs.LineLaws.{closing_most}
-use Rattle.reading.specs.declared.Said.TheVariants.{Page}
-use Rattle.reading.specs.Pages.{unlawful}
+use Rattle.std.specs.Prelude.{Ok}
+use Rattle.reading.specs.Reads.{Standing}
+use Rattle.reading.specs.Pages.{unlawful, Telling}
 use Rattle.reading.proofs.Narrow.{begun_lawful as begins-lawful, begun_unlawful as begins-unlawful}
 use Rattle.reading.proofs.Reading.{heard-holds}
-use Rattle.reading.proofs.Printing.{holds_put, page_fits, page_says, Telling, told-says}
-use Rattle.spuraccounts.specs.declared.Input.{Input}
-use Rattle.spuraccounts.specs.Pages.{accounting, standing, ReadOut, Prints}
+use Rattle.reading.proofs.Printing.{holds_put, page_fits, page_says}
+use Rattle.spuraccounts.specs.Pages.{accounting, ReadOut, Prints}
 use Rattle.spuraccounts.proofs.Reading.{fed-first, accounting_pieces}
 
 -- ---- an input that was read
@@ -43,7 +43,7 @@ module _ (limit : ℕ) (lawful : lawful_limit limit ≡ true) where
       ∙ (reckoning limit lawful).rest (bytes ∷ []) rest (ap (λ (l : Ledger). goes l.stream.stop) (sym (fed-first limit lawful bytes)) ∙ ended)
       ∙ ap (reckoning_of limit) (append-nil bytes)
 
-  accounting_tells : Telling accounting (fresh_ledger limit) (accounts_page limit) (λ l. closing_lines (closing_of l))
+  pub accounting_tells : Telling accounting (fresh_ledger limit) (accounts_page limit) (λ l. closing_lines (closing_of l))
   accounting_tells =
       record {
         says = λ bytes. page_of_lem _ bytes (closing_of_lem bytes);
@@ -51,19 +51,12 @@ module _ (limit : ℕ) (lawful : lawful_limit limit ≡ true) where
       }
 
   -- there are sixteen entries, since the recording's account has so many
-  lines_fit : (i : Input) (c : Closing) → ReadOut limit i → c ≡ closing_of i.ledger → length (closing_lines c) ≤ 1532
-  lines_fit i c out e =
+  pub lines_fit : (i : Standing Ledger) → ReadOut limit i → length (closing_lines (closing_of i.state)) ≤ 1532
+  lines_fit i out =
       let bytes : List ℕ = out.bytes in
-      let fed = heard-holds accounting (fresh_ledger limit) (accounting_pieces limit lawful) bytes (standing i) out.heard in
-      let is : c ≡ reckoning_of limit bytes = e ∙ ap closing_of fed.state ∙ closing_of_lem bytes in
-      closing_most c (ap (λ (x : Closing). length x.entries) is ∙ ((reckoning limit lawful).right bytes).account.sixteen)
-
-  pub closed_says : (i : Input) (text after : List ℕ) (c : Closing) (q : Place) → length text ≡ 1536 → i.failed ≡ false → ReadOut limit i → c ≡ closing_of i.ledger
-      → q ≡ moved_by (length text) front (length (closing_lines c)) → after ≡ put_at text front (closing_lines c) → Prints limit after (Page q.at)
-  closed_says i text after c q size sound out ce qe ae =
-      let held = holds_put text after (closing_lines c) q (let h = lines_fit i c out ce in omega arith) qe ae in
-      told-says accounting (fresh_ledger limit) (accounting_pieces limit lawful) (accounts_page limit) _ accounting_tells (lawful_limit limit) lawful (standing i) after q sound out
-      (subst (λ (x : Closing). Holds after q (closing_lines x)) ce held)
+      let fed = heard-holds accounting (fresh_ledger limit) (accounting_pieces limit lawful) bytes i out.heard in
+      let is : closing_of i.state ≡ reckoning_of limit bytes = ap closing_of fed.state ∙ closing_of_lem bytes in
+      closing_most (closing_of i.state) (ap (λ (x : Closing). length x.entries) is ∙ ((reckoning limit lawful).right bytes).account.sixteen)
 
 -- ---- the limit
 module _ (limit narrow : ℕ) (begun : Posted) (ne : narrow ≡ min limit 255) (be : begun ≡ begun_of narrow) where
@@ -80,7 +73,7 @@ module _ (limit narrow : ℕ) (begun : Posted) (ne : narrow ≡ min limit 255) (
       (h.0, ap (λ (r : Posted). r.number) h.1)
 
   pub refused_says : (text after : List ℕ) (q : Place) → length text ≡ 1536 → (begun.number ≡ 0 → ⊥)
-      → q ≡ moved_by (length text) front (length (refused_line begun.number)) → after ≡ put_at text front (refused_line begun.number) → Prints limit after (Page q.at)
+      → q ≡ moved_by (length text) front (length (refused_line begun.number)) → after ≡ put_at text front (refused_line begun.number) → Prints limit after (Ok q.at)
   refused_says text after q size nz qe ae =
       let refusal = refused-limit nz in
       let held = holds_put text after (refused_line begun.number) q (let h = refusal-most begun.number in omega arith) qe ae in

@@ -16,8 +16,7 @@ use Rattle.usage.specs.declared.Ledger.{Ledger}
 use Rattle.usage.specs.declared.Posted.{Posted}
 use Rattle.usage.specs.Pieces.{fresh_ledger, posted_of, posted_all}
 use Rattle.usage.proofs.Pieces.{posted_all_lem, post_stream, reckoning}
-use Rattle.reading.specs.Reads.{bytes_most}
-use Rattle.reading.proofs.Reading.{Piecewise}
+use Rattle.reading.specs.Reads.{bytes_most, Piecewise}
 use Rattle.spuraccounts.specs.Pages.{accounting}
 
 -- pieces that have the same bytes come to the same

@@ -17,13 +17,12 @@ use Rattle.text.specs.declared.Place.{Place}
 use Rattle.text.specs.Places.{front, moved_by, put_at, Holds}
 use Rattle.printed.specs.Lines.{refused_line, lines_of, page_of}
 use Rattle.printed.proofs.LineLaws.{lines-most, refusal-most}
-use Rattle.reading.specs.declared.Said.TheVariants.{Page}
-use Rattle.reading.specs.Pages.{unlawful}
+use Rattle.std.specs.Prelude.{Ok}
+use Rattle.reading.specs.Pages.{unlawful, Telling}
 use Rattle.reading.proofs.Narrow.{begun_lawful as begins-lawful, begun_unlawful as begins-unlawful}
-use Rattle.reading.proofs.Printing.{holds_put, page_fits, page_says, Telling, told-says}
-use Rattle.spurjudge.specs.declared.Input.{Input}
-use Rattle.spurjudge.specs.Pages.{judging, standing, ReadOut, Prints}
-use Rattle.spurjudge.proofs.Reading.{fed-first, judging_pieces}
+use Rattle.reading.proofs.Printing.{holds_put, page_fits, page_says}
+use Rattle.spurjudge.specs.Pages.{judging, Prints}
+use Rattle.spurjudge.proofs.Reading.{fed-first}
 
 -- ---- an input that was read
 module _ (limit : ℕ) (lawful : lawful_limit limit ≡ true) where
@@ -40,19 +39,12 @@ module _ (limit : ℕ) (lawful : lawful_limit limit ≡ true) where
       ∙ (feeding limit lawful).rest (bytes ∷ []) rest (ap (λ (s : Stream). goes s.stop) (sym (fed-first limit lawful bytes)) ∙ ended)
       ∙ ap (ending_of limit) (append-nil bytes)
 
-  judging_tells : Telling judging (fresh_stream limit) (page_of limit) (λ s. lines_of (finish_of s))
+  pub judging_tells : Telling judging (fresh_stream limit) (page_of limit) (λ s. lines_of (finish_of s))
   judging_tells =
       record {
         says = λ bytes. page_says_of _ bytes (ending_says bytes);
         rest = λ bytes rest ended. sym (page_says_of _ (bytes ++ rest) (sym (behind-same bytes rest ended))) ∙ page_says_of _ bytes refl;
       }
-
-  pub judged-says : (i : Input) (text after : List ℕ) (e : Ending) (q : Place) → length text ≡ 256 → i.failed ≡ false → ReadOut limit i → e ≡ finish_of i.stream
-      → q ≡ moved_by (length text) front (length (lines_of e)) → after ≡ put_at text front (lines_of e) → Prints limit after (Page q.at)
-  judged-says i text after e q size sound out ee qe ae =
-      let held = holds_put text after (lines_of e) q (let h = lines-most e in omega arith) qe ae in
-      told-says judging (fresh_stream limit) (judging_pieces limit lawful) (page_of limit) _ judging_tells (lawful_limit limit) lawful (standing i) after q sound out
-      (subst (λ (x : Ending). Holds after q (lines_of x)) ee held)
 
 -- ---- the limit
 module _ (limit narrow : ℕ) (begun : Fed) (ne : narrow ≡ min limit 255) (be : begun ≡ fresh_of narrow) where
@@ -69,7 +61,7 @@ module _ (limit narrow : ℕ) (begun : Fed) (ne : narrow ≡ min limit 255) (be 
       (h.0, ap (λ (r : Fed). r.number) h.1)
 
 pub refused_says : (limit narrow : ℕ) (begun : Fed) (text after : List ℕ) (q : Place) → length text ≡ 256 → narrow ≡ min limit 255 → begun ≡ fresh_of narrow → (begun.number ≡ 0 → ⊥)
-    → q ≡ moved_by (length text) front (length (refused_line begun.number)) → after ≡ put_at text front (refused_line begun.number) → Prints limit after (Page q.at)
+    → q ≡ moved_by (length text) front (length (refused_line begun.number)) → after ≡ put_at text front (refused_line begun.number) → Prints limit after (Ok q.at)
 refused_says limit narrow begun text after q size ne be nz qe ae =
     let refusal = refused-limit limit narrow begun ne be nz in
     let held = holds_put text after (refused_line begun.number) q (let h = refusal-most begun.number in omega arith) qe ae in

@@ -13,8 +13,7 @@ use Rattle.feeding.specs.State.{goes, gone_on, fresh_stream, feed_of, fed_of}
 use Rattle.feeding.specs.Pieces.{fed_all}
 use Rattle.feeding.proofs.GoOn.{feed_more, going-within}
 use Rattle.feeding.proofs.Feeding.{fed-all, feeding}
-use Rattle.reading.specs.Reads.{bytes_most}
-use Rattle.reading.proofs.Reading.{Piecewise}
+use Rattle.reading.specs.Reads.{bytes_most, Piecewise}
 use Rattle.spurjudge.specs.Pages.{judging}
 
 -- the state of all the bytes at once

@@ -22,12 +22,11 @@ use Rattle.witness.specs.Input.{reason_of}
 use Rattle.witness.proofs.Pieces.{reason_is, rest-same}
 use Rattle.whylines.specs.Lines.{reason_lines, why_page}
 use Rattle.whylines.proofs.LineLaws.{reason_most}
-use Rattle.reading.specs.declared.Said.TheVariants.{Page}
-use Rattle.reading.specs.Pages.{unlawful}
+use Rattle.std.specs.Prelude.{Ok}
+use Rattle.reading.specs.Pages.{unlawful, Telling}
 use Rattle.reading.proofs.Narrow.{begun_lawful as begins-lawful, begun_unlawful as begins-unlawful}
-use Rattle.reading.proofs.Printing.{holds_put, page_fits, page_says, Telling, told-says}
-use Rattle.spurwhy.specs.declared.Input.{Input}
-use Rattle.spurwhy.specs.Pages.{explaining, standing, ReadOut, Prints}
+use Rattle.reading.proofs.Printing.{holds_put, page_fits, page_says}
+use Rattle.spurwhy.specs.Pages.{explaining, Prints}
 use Rattle.spurwhy.proofs.Reading.{fed_is, explaining_pieces}
 
 -- ---- an input that was read
@@ -43,19 +42,12 @@ module _ (limit : ℕ) (lawful : lawful_limit limit ≡ true) where
   behind-same bytes rest ended =
       rest-same limit (lawful_limits limit lawful).0 (lawful_limits limit lawful).1 bytes rest (ap (λ (w : Witness). goes w.stream.stop) (sym (fed_is limit lawful bytes)) ∙ ended)
 
-  explaining_tells : Telling explaining (fresh_witness limit) (why_page limit) (λ w. reason_lines (reason_in w))
+  pub explaining_tells : Telling explaining (fresh_witness limit) (why_page limit) (λ w. reason_lines (reason_in w))
   explaining_tells =
       record {
         says = λ bytes. page_of_lem _ bytes (reason_of_lem bytes);
         rest = λ bytes rest ended. sym (page_of_lem _ (bytes ++ rest) (sym (behind-same bytes rest ended))) ∙ page_of_lem _ bytes refl;
       }
-
-  pub reason_says : (i : Input) (text after : List ℕ) (r : Reason) (q : Place) → length text ≡ 320 → i.failed ≡ false → ReadOut limit i → r ≡ reason_in i.witness
-      → q ≡ moved_by (length text) front (length (reason_lines r)) → after ≡ put_at text front (reason_lines r) → Prints limit after (Page q.at)
-  reason_says i text after r q size sound out re qe ae =
-      let held = holds_put text after (reason_lines r) q (let h = reason_most r in omega arith) qe ae in
-      told-says explaining (fresh_witness limit) (explaining_pieces limit lawful) (why_page limit) _ explaining_tells (lawful_limit limit) lawful (standing i) after q sound out
-      (subst (λ (x : Reason). Holds after q (reason_lines x)) re held)
 
 -- ---- the limit
 abbrev beginning : Fed → Noted
@@ -77,7 +69,7 @@ module _ (limit narrow : ℕ) (begun : Noted) (ne : narrow ≡ min limit 255) (b
       (h.0, ap (λ (r : Noted). r.number) h.1)
 
   pub refused_says : (text after : List ℕ) (q : Place) → length text ≡ 320 → (begun.number ≡ 0 → ⊥)
-      → q ≡ moved_by (length text) front (length (refused_line begun.number)) → after ≡ put_at text front (refused_line begun.number) → Prints limit after (Page q.at)
+      → q ≡ moved_by (length text) front (length (refused_line begun.number)) → after ≡ put_at text front (refused_line begun.number) → Prints limit after (Ok q.at)
   refused_says text after q size nz qe ae =
       let refusal = refused-limit nz in
       let held = holds_put text after (refused_line begun.number) q (let h = refusal-most begun.number in omega arith) qe ae in

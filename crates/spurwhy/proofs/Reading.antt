@@ -14,8 +14,7 @@ use Rattle.witness.specs.declared.Witness.{Witness}
 use Rattle.witness.specs.declared.Noted.{Noted}
 use Rattle.witness.specs.State.{fresh_witness, noted_of}
 use Rattle.witness.proofs.Pieces.{witness_of, noted_more, witness_fresh}
-use Rattle.reading.specs.Reads.{bytes_most}
-use Rattle.reading.proofs.Reading.{Piecewise}
+use Rattle.reading.specs.Reads.{bytes_most, Piecewise}
 use Rattle.spurwhy.specs.Pages.{explaining}
 
 module _ (limit : ℕ) (lawful : lawful_limit limit ≡ true) where

@@ -5,7 +5,7 @@ use Rattle.reading.proofs.Printing.{page_within}
 use Rattle.spuraccounts.proofs.account.Goals as goal
 
 pub slice_bounds-text-end : goal.slice_bounds-text-end
-slice_bounds-text-end c = page_within _ _ _ _ _ c.account_input-said.result _ c.account_input-said.ensures c.in-Page.is
+slice_bounds-text-end c = page_within _ _ _ _ _ c.account_input.result _ c.account_input.ensures c.in-Ok.is
 
 pub slice_bounds-print-end : goal.slice_bounds-print-end
-slice_bounds-print-end c = sym (length-take-le _ c.account_input-said.new.text (page_within _ _ _ _ _ c.account_input-said.result _ c.account_input-said.ensures c.in-Page.is))
+slice_bounds-print-end c = sym (length-take-le _ c.account_input.new.text (page_within _ _ _ _ _ c.account_input.result _ c.account_input.ensures c.in-Ok.is))

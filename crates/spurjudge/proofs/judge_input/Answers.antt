@@ -1,5 +1,15 @@
 -- `spurjudge::judge_input` meets its contract. Assumes nothing.
-use Rattle.spurjudge.proofs.Printing.{refused_says, begun_lawful}
+use mathlib.Core.Path.{sym, subst}
+use native.Mathlib.Omega.{arith}
+use Rattle.basics.specs.Numbers.{lawful_limit}
+use Rattle.feeding.specs.declared.Stream.{Stream}
+use Rattle.feeding.specs.State.{fresh_stream, finish_of}
+use Rattle.printed.specs.Lines.{page_of}
+use Rattle.printed.proofs.LineLaws.{lines-most}
+use Rattle.reading.specs.Reads.{Piecewise, ReadOut as ReadOutOf}
+use Rattle.spurjudge.specs.Pages.{judging}
+use Rattle.spurjudge.proofs.Reading.{judging_pieces}
+use Rattle.spurjudge.proofs.Printing.{refused_says, begun_lawful, judging_tells}
 use Rattle.spurjudge.proofs.judge_input.Goals as goal
 
 pub returns-then-begun-ne0 : goal.returns-then-begun-ne0
@@ -10,4 +20,7 @@ returns-then-begun-ne0 c = let a = c.args in
 pub returns : goal.returns
 returns c = let a = c.args in
     let begun = begun_lawful a.limit c.narrowed.result c.fresh-begun.result c.narrowed.ensures c.fresh-begun.ensures c.if-begun-ne0.false in
-    c.told.ensures a.limit begun.0 (c.read_all-input.ensures a.limit begun.0 begun.1)
+    let laws = judging_pieces a.limit begun.0 in
+    let out = c.read_all-input.ensures (fresh_stream a.limit) begun.1 laws in
+    let most = lines-most (finish_of c.read_all-input.result.state) in
+    c.told.ensures (fresh_stream a.limit) (lawful_limit a.limit) (page_of a.limit) begun.0 laws (judging_tells a.limit begun.0) (omega arith) out

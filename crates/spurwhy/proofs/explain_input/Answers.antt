@@ -1,5 +1,11 @@
 -- `spurwhy::explain_input` meets its contract. Assumes nothing.
-use Rattle.spurwhy.proofs.Printing.{refused_says, begun_lawful}
+use native.Mathlib.Omega.{arith}
+use Rattle.basics.specs.Numbers.{lawful_limit}
+use Rattle.witness.specs.State.{fresh_witness, reason_in}
+use Rattle.whylines.specs.Lines.{why_page}
+use Rattle.whylines.proofs.LineLaws.{reason_most}
+use Rattle.spurwhy.proofs.Reading.{explaining_pieces}
+use Rattle.spurwhy.proofs.Printing.{refused_says, begun_lawful, explaining_tells}
 use Rattle.spurwhy.proofs.explain_input.Goals as goal
 
 pub returns-then-begun-ne0 : goal.returns-then-begun-ne0
@@ -9,4 +15,7 @@ returns-then-begun-ne0 c = let e = rw c.front.ensures at c.put_refused-line.ensu
 pub returns : goal.returns
 returns c = let a = c.args in
     let begun = begun_lawful a.limit c.narrowed.result c.fresh-begun.result c.narrowed.ensures c.fresh-begun.ensures c.if-begun-ne0.false in
-    c.told.ensures a.limit begun.0 (c.read_all-input.ensures a.limit begun.0 begun.1)
+    let laws = explaining_pieces a.limit begun.0 in
+    let out = c.read_all-input.ensures (fresh_witness a.limit) begun.1 laws in
+    let most = reason_most (reason_in c.read_all-input.result.state) in
+    c.told.ensures (fresh_witness a.limit) (lawful_limit a.limit) (why_page a.limit) begun.0 laws (explaining_tells a.limit begun.0) (omega arith) out
