@@ -5,6 +5,7 @@
 ghost use Rattle.std.specs.Prelude.{◌≡◌, true, ◌-◌, ◌≤◌, ◌<◌, min, length, drop};
 ghost use Rattle.io.specs.Digits.{hex_digit_ascii, last_digits};
 ghost use Rattle.text.specs.Numbers.{all_digits, value_of};
+ghost use Rattle.text.specs.Pages.{grown};
 ghost use Rattle.text.specs.Places.{moved_by, put_at};
 ghost use Rattle.figures.specs.Figures.{figure_of};
 ghost use Rattle.figures.specs.Times.{base_of, seconds_of, nanoseconds_of};
@@ -76,43 +77,65 @@ fn spell(glyphs: &mut [u8], base: u64, first: usize, n: u64)
     }
 }
 
-// Puts the last digits of n in a base at the place, so many of them and at most 64, with zeros in front: all, or nothing where they do not fit.
-pub fn put_digits(buffer: &mut [u8], place: Place, base: Base, width: usize, n: u64) -> Place
-    ensures { (result ≡ moved_by (length buffer.old) place (length (last_digits (base_of base) (min width 64) n))) × (buffer.new ≡ put_at buffer.old place (last_digits (base_of base) (min width 64) n)) }
+// Puts the last digits of n in a base behind what stands on a page, so many of them and at most 64, with zeros in front.
+pub fn add_digits<const N: usize>(page: &mut Page<N>, base: Base, width: usize, n: u64)
+    ensures { page.new ≡ grown N page.old (last_digits (base_of base) (min width 64) n) }
 {
     let mut glyphs = [0; 64];
     let first = 64 - width.min(64);
     spell(&mut glyphs, base_of(base), first, n);
-    text::put_word(buffer, place, &glyphs[first..])
+    page.put(&glyphs[first..]);
+}
+
+// Puts them at the place: all, or nothing where they do not fit.
+pub fn put_digits(buffer: &mut [u8], place: Place, base: Base, width: usize, n: u64) -> Place
+    ensures { (result ≡ moved_by (length buffer.old) place (length (last_digits (base_of base) (min width 64) n))) × (buffer.new ≡ put_at buffer.old place (last_digits (base_of base) (min width 64) n)) }
+{
+    let mut page: Page<64> = Page::new();
+    add_digits(&mut page, base, width, n);
+    page.put_into(buffer, place)
 }
 
 // ---- times
 
-// Puts the time of so many cycles in seconds at the place, or nothing where it does not fit.
+// Puts the time of so many cycles in seconds behind what stands on a page.
+#[tactic(auto, using(text::proofs::PageLaws::grown_then), unfolding(crate::specs::Times::seconds_of))]
+pub fn add_seconds<const N: usize>(page: &mut Page<N>, cycles: u64)
+    ensures { page.new ≡ grown N page.old (seconds_of cycles) }
+{
+    page.put_named(b"", cycles / 10_000_000);
+    page.put(b".");
+    add_digits(page, Base::Decimal, 7, cycles);
+}
+
+// Puts it at the place, or nothing where it does not fit.
 pub fn put_seconds(buffer: &mut [u8], place: Place, cycles: u64) -> Place
     ensures { (result ≡ moved_by (length buffer.old) place (length (seconds_of cycles))) × (buffer.new ≡ put_at buffer.old place (seconds_of cycles)) }
 {
-    let start = Place::front();
-    let mut page = [0u8; 64];
-    let whole = text::put_named(&mut page, start, b"", cycles / 10000000);
-    let point = text::put_word(&mut page, whole, b".");
-    let time = put_digits(&mut page, point, Base::Decimal, 7, cycles);
-    let size = time.at;
-    text::put_word(buffer, place, &page[..size])
+    let mut page: Page<64> = Page::new();
+    add_seconds(&mut page, cycles);
+    page.put_into(buffer, place)
 }
 
-// Puts the time of so many cycles in nanoseconds at the place, or nothing where it does not fit. It may have more than 64 bits, so that the digits
-// are those of the cycles with two zeros behind.
+// Puts the time of so many cycles in nanoseconds behind what stands on a page. It may have more than 64 bits, so that the digits are those of the
+// cycles with two zeros behind.
+#[tactic(auto, using(text::proofs::PageLaws::grown_then), unfolding(crate::specs::Times::nanoseconds_of))]
+pub fn add_nanoseconds<const N: usize>(page: &mut Page<N>, cycles: u64)
+    ensures { page.new ≡ grown N page.old (nanoseconds_of cycles) }
+{
+    if cycles == 0 {
+        page.put(b"0");
+    } else {
+        page.put_named(b"", cycles);
+        page.put(b"00");
+    }
+}
+
+// Puts it at the place, or nothing where it does not fit.
 pub fn put_nanoseconds(buffer: &mut [u8], place: Place, cycles: u64) -> Place
     ensures { (result ≡ moved_by (length buffer.old) place (length (nanoseconds_of cycles))) × (buffer.new ≡ put_at buffer.old place (nanoseconds_of cycles)) }
 {
-    if cycles == 0 {
-        return text::put_word(buffer, place, b"0");
-    }
-    let start = Place::front();
-    let mut page = [0u8; 64];
-    let hundreds = text::put_named(&mut page, start, b"", cycles);
-    let time = text::put_word(&mut page, hundreds, b"00");
-    let size = time.at;
-    text::put_word(buffer, place, &page[..size])
+    let mut page: Page<64> = Page::new();
+    add_nanoseconds(&mut page, cycles);
+    page.put_into(buffer, place)
 }

@@ -65,6 +65,10 @@ page_put n page text buffer p e h r =
     let full : page ≡ Some text = e ∙ grown_fresh n text h in
     (r.0 ∙ ap (moved_text (length buffer) p) full, r.1 ∙ ap (put_text buffer p) full)
 
+-- so is what was put on a page that had nothing on it
+pub page_made : (n : ℕ) (text : List ℕ) {start page : Option (List ℕ)} → start ≡ Some [] → page ≡ grown n start text → (buffer : List ℕ) (p : Place) {q : Place} {next : List ℕ} → length text ≤ n → (q ≡ moved_text (length buffer) p page) × (next ≡ put_text buffer p page) → (q ≡ moved_by (length buffer) p (length text)) × (next ≡ put_at buffer p text)
+page_made n text {start} {page} s e buffer p h r = page_put n page text buffer p (rw s at e) h r
+
 -- the place behind a word is on the page
 pub moved_within : (size : ℕ) (p : Place) (n : ℕ) → (moved_by size p n).at ≤ size
 moved_within size p n =
