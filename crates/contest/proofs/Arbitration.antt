@@ -11,7 +11,7 @@ use Rattle.slots.proofs.MemberLaws.{mem-empty, empty_is_zero}
 use Rattle.slots.proofs.TopLaws.{Top, found, bare, top_view, top_most}
 use Rattle.contest.specs.Contest.{drives, MayDrive, Settled, Settles, winner_of}
 use Rattle.contest.specs.Walk.{settle_from}
-use Rattle.contest.specs.declared.Winner.TheVariants.{Slot, Nobody}
+use Rattle.std.specs.Prelude.{Some, None}
 use Rattle.contest.proofs.Laws.{drives-says, says-drives}
 use Rattle.contest.proofs.Settling.{settles, walk_top}
 use Rattle.contest.proofs.Winners.{nobody_wins, top_wins}
@@ -27,15 +27,15 @@ pub record Contest : Type 0 where
   pub only : (set lines : ℕ) → lines < 16 → Settled set lines → lines ≡ top set
   pub contests : (set : ℕ) → set < 2 ^ 16 → (set ≡ 0 → ⊥) → mem (top set) set ≡ true
   pub highest : (set slot : ℕ) → slot < 16 → mem slot set ≡ true → slot ≤ top set
-  pub wins : (set : ℕ) → (set ≡ 0 → ⊥) → winner_of set ≡ Slot (top set)
-  -- "Slot 0 alone drives no line and still wins"
+  pub wins : (set : ℕ) → (set ≡ 0 → ⊥) → winner_of set ≡ Some (top set)
+  -- "Some 0 alone drives no line and still wins"
   pub zero-drives-none : (k lines : ℕ) → k < 4 → drives k true 0 lines ≡ false
   pub zero_settles_at_0 : Settles (2 ^ 0) 0
-  pub zero_wins : winner_of (2 ^ 0) ≡ Slot 0
+  pub zero_wins : winner_of (2 ^ 0) ≡ Some 0
   -- "an empty set has no winner", and only an empty set; its lines settle at 0
   pub empty_settles_at_0 : Settles 0 0
-  pub empty_has_none : winner_of 0 ≡ Nobody
-  pub none-only_if_empty : (set : ℕ) → winner_of set ≡ Nobody → set ≡ 0
+  pub empty_has_none : winner_of 0 ≡ None
+  pub none-only_if_empty : (set : ℕ) → winner_of set ≡ None → set ≡ 0
 
 -- the winner is one of the contestants
 top-contests : (set : ℕ) → set < 2 ^ 16 → (set ≡ 0 → ⊥) → mem (top set) set ≡ true
@@ -49,8 +49,8 @@ zero-drives : (k lines : ℕ) → k < 4 → drives k true 0 lines ≡ false
 zero-drives k lines h =
     not-true (drives k true 0 lines) (λ e. true≢false (sym (drives-says true 0 lines k h e).own ∙ mem-empty k))
 
-none-empty : (set : ℕ) → winner_of set ≡ Nobody → set ≡ 0
-none-empty set e = elim (ℕ_discrete set 0) [ yes q ↦ q | no n ↦ let z : Slot (top set) ≡ Nobody = sym (top_wins set n) ∙ e in let y : ◌≡◌ {A = ℕ} 0 1 = cc in absurd (omega arith) ]
+none-empty : (set : ℕ) → winner_of set ≡ None → set ≡ 0
+none-empty set e = elim (ℕ_discrete set 0) [ yes q ↦ q | no n ↦ let z : Some (top set) ≡ None = sym (top_wins set n) ∙ e in let y : ◌≡◌ {A = ℕ} 0 1 = cc in absurd (omega arith) ]
 
 pub the_contest : Contest
 unfolding top_below active bit

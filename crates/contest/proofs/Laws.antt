@@ -1,10 +1,12 @@
 -- Laws of 001's equations. Assumes nothing.
 use Prim.Native.Nat.{ℕ, zero, suc, ◌+◌, ◌<◌}
-use mathlib.Core.Path.{◌≡◌, refl, ap₂}
-use mathlib.Core.Bool.{Bool, true, false, ◌&&◌, ◌||◌, not, or-true, false≢true}
+use mathlib.Core.Path.{◌≡◌, refl, sym, ap, ◌∙◌, ap₂}
+use mathlib.Core.Bool.{Bool, true, false, ◌&&◌, ◌||◌, not, or-true, or-false, false≢true}
 use native.Mathlib.Omega.{arith}
 use native.Mathlib.Decide.{ℕ_discrete}
+use native.Mathlib.Nat.{add-zero, zero-add, add-suc, suc-add}
 use native.Mathlib.Numerals.{add-one}
+use Rattle.std.specs.List.{list_any, range_with_len}
 use Rattle.basics.specs.Lines.{active}
 use Rattle.basics.proofs.Bools.{and_both, both_and, by-test}
 use Rattle.slots.specs.Set.{mem}
@@ -89,6 +91,29 @@ unfolding driven_below
 driven-same zero k set v w f = refl
 driven-same (suc n) k set v w f = ap₂ ◌||◌ (drives-same k (mem n set) n v w f) (driven-same n k set v w f)
 
+-- the slots looked at from the first on, beside those below it
+or-turned : (t r d : Bool) → ((t || r) || d) ≡ (r || (t || d))
+or-turned true r d = sym (or-true r)
+or-turned false r d = refl
+
+module _ (k set l : ℕ) where
+  from-on : (n a : ℕ) → (list_any (λ s. drives k (mem s set) s l) (range_with_len a n) || driven_below a k set l) ≡ driven_below (a + n) k set l
+  unfolding driven_below
+  from-on zero a = rw (add-zero a)
+  from-on (suc n) a =
+      let e : a + 1 ≡ suc a = add-one a in
+      let f : suc (a + n) ≡ a + suc n = sym (add-suc a n) in
+      let g : suc a + n ≡ suc (a + n) = suc-add a n in
+      or-turned (drives k (mem a set) a l) (list_any (λ s. drives k (mem s set) s l) (range_with_len (a + 1) n)) (driven_below a k set l)
+      ∙ ap (λ b. list_any (λ s. drives k (mem s set) s l) (range_with_len b n) || driven_below (suc a) k set l) e
+      ∙ from-on n (suc a)
+      ∙ ap (λ m. driven_below m k set l) (g ∙ f)
+
+-- some slot below n drives the line, by std's words
+pub any_driven : (n k set l : ℕ) → list_any (λ s. drives k (mem s set) s l) (range_with_len 0 n) ≡ driven_below n k set l
+unfolding driven_below
+any_driven n k set l = sym (or-false (list_any (λ s. drives k (mem s set) s l) (range_with_len 0 n))) ∙ from-on k set l n 0 ∙ rw zero-add
+
 -- a line is driven exactly if a slot drives it
 pub driven_by : (n k set l s : ℕ) → s < n → drives k (mem s set) s l ≡ true → driven_below n k set l ≡ true
 unfolding driven_below
@@ -102,11 +127,6 @@ driver zero k set l e = absurd (false≢true e)
 driver (suc n) k set l e =
     by-test (drives k (mem n set) n l) (λ t. (n, omega arith, t))
     (λ t. let r = driver n k set l (rw t at e) in (r.0, omega (arith, r.1), r.2))
-
--- one slot more, that does not drive it
-pub driven-more : (n k set l : ℕ) → driven_below n k set l ≡ false → drives k (mem n set) n l ≡ false → driven_below (n + 1) k set l ≡ false
-unfolding driven_below
-driven-more n k set l e d = rw (add-one, d, e)
 
 -- the equations of settled lines, by the line's number
 pub line_of : {set l : ℕ} → Settled set l → (k : ℕ) → k < 4 → active k l ≡ driven k set l

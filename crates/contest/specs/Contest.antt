@@ -1,11 +1,9 @@
 -- Document 01, "The contest (001, 2.7.1)": "A contestant drives a bit of its slot number only while no higher ARB line is active that its own
 -- number lacks. The settled lines are worked out from ARB3 down to ARB0, each line from those above it. They have one settled value, and it is
 -- the highest contesting slot. Slot 0 alone drives no line and still wins; an empty set has no winner."
-use Rattle.std.specs.Prelude.{ℕ, zero, suc, ◌<◌, ◌≡◌, Bool, true, false, cond, ◌&&◌, ◌||◌, not, eqb}
+use Rattle.std.specs.Prelude.{ℕ, zero, suc, ◌<◌, ◌≡◌, Bool, true, false, cond, ◌&&◌, ◌||◌, not, eqb, Option, Some, None}
 use Rattle.basics.specs.Lines.{active}
 use Rattle.slots.specs.Set.{mem, top}
-use Rattle.contest.specs.declared.Winner.{Winner}
-use Rattle.contest.specs.declared.Winner.TheVariants.{Slot, Nobody}
 
 -- 001, 2.7.1, as the equations stand there. What a master drives (o) from what it reads (i): `arb` is its "desire to use the bus", `id` its slot
 -- number, `lines` the ARB lines read; `*` is and, `+` is or, and ARBx/, the backplane's line, is the inverse of ARBx.
@@ -61,5 +59,5 @@ pub record Settles (set lines : ℕ) : Type 0 where
   pub highest : lines ≡ top set
 
 -- the winner: "an empty set has no winner"
-unfoldable pub winner_of : ℕ → Winner
-winner_of set = cond (eqb set 0) Nobody (Slot (top set))
+unfoldable pub winner_of : ℕ → Option ℕ
+winner_of set = cond (eqb set 0) None (Some (top set))

@@ -9,12 +9,6 @@ ghost use Rattle.contest.specs.Walk.{with_line, settle_from};
 
 use slots::{member, with};
 
-#[derive(Clone, Copy)]
-pub enum Winner {
-    Slot(u8),
-    Nobody,
-}
-
 // The slot's number has the line.
 fn has(id: u8, line: u8) -> bool
     ensures { result ≡ active line id }
@@ -51,12 +45,7 @@ fn is_driven(line: u8, set: u16, lines: u16) -> bool
     requires { line < 4 }
     ensures { result ≡ driven line set lines }
 {
-    for slot in 0..16 {
-        if drives(line, member(set, slot), slot, lines) {
-            return true;
-        }
-    }
-    false
+    (0..16).any(|slot| drives(line, member(set, slot), slot, lines))
 }
 
 // The higher lines with the next one, worked out from them.
@@ -91,15 +80,11 @@ pub fn settle(set: u16) -> u8
     settle_from(3, set, 0) as u8
 }
 
-// The winner. Slot 0 alone leaves all lines inactive and still wins: ARB 0 alone doesn't say that nobody contests.
+// The winner, if there is one. Slot 0 alone leaves all lines inactive and still wins: ARB 0 alone doesn't say that nobody contests.
 #[tactic(auto, using(crate::proofs::Winners::nobody_wins, crate::proofs::Winners::top_wins))]
-pub fn contest(set: u16) -> Winner
+pub fn contest(set: u16) -> Option<u8>
     ensures { result ≡ winner_of set }
 {
     let lines = settle(set);
-    if set == 0 {
-        Winner::Nobody
-    } else {
-        Winner::Slot(lines)
-    }
+    if set == 0 { None } else { Some(lines) }
 }
