@@ -2,11 +2,16 @@
 -- nothing.
 use Prim.Native.Nat.{ℕ, min}
 use mathlib.Core.Bool.{true, false, cond, false≢true}
-use mathlib.Core.Path.{◌≡◌, sym, ap, ◌∙◌}
+use mathlib.Core.Path.{◌≡◌, refl, sym, ap, ◌∙◌}
 use native.Mathlib.Omega.{arith}
 use lib.Dec.{leb}
 use borrow.Author.Tests.{leb-true, le-leb}
+use Rattle.std.specs.Prelude.{Result, Ok, Err}
+use Rattle.basics.specs.declared.refusal.Refusal.{Refusal}
+use Rattle.basics.specs.Answers.{Answer, accepted, refused, refusal_number, answered}
+use Rattle.std.specs.Result.{result_unwrap_or}
 use Rattle.basics.specs.Numbers.{lawful_limit}
+use Rattle.basics.proofs.Refusals.{some_number}
 use Rattle.basics.proofs.Bools.{by-test, cond-true, cond-false, and_both, both_and, not-true}
 
 module _ (limit narrow : ℕ) (is : narrow ≡ min limit 255) where
@@ -29,16 +34,24 @@ module _ (limit narrow : ℕ) (is : narrow ≡ min limit 255) where
       (λ e. still-lawful e ∙ sym e)
       (λ e. not-true (lawful_limit narrow) (λ l. absurd (false≢true (sym e ∙ ap lawful_limit (narrow_same l) ∙ l))) ∙ sym e)
 
--- what a program begins with, its number 0 where the limit is lawful and another where it is not
-module _ {S : Type 0} (number : S → ℕ) (good : ℕ → S) (bad begun : S) (limit narrow : ℕ) (is : narrow ≡ min limit 255) (be : begun ≡ cond (lawful_limit narrow) (good narrow) bad) where
-  pub begun_lawful : (number bad ≡ 0 → ⊥) → number begun ≡ 0 → (lawful_limit limit ≡ true) × (begun ≡ good limit)
-  begun_lawful never z =
+-- what a program begins with: what a call with the narrowed limit answers, which refuses one that is not lawful by 3
+module _ {S : Type 0} (good : ℕ → S) (zeros : S) (limit narrow : ℕ) (is : narrow ≡ min limit 255) (begun : Result S Refusal)
+    (be : answered zeros begun ≡ cond (lawful_limit narrow) (accepted (good narrow)) (refused 3 zeros)) where
+  pub begun_lawful : (s : S) → begun ≡ Ok s → (lawful_limit limit ≡ true) × (s ≡ good limit)
+  begun_lawful s e =
+      let ok : accepted s ≡ cond (lawful_limit narrow) (accepted (good narrow)) (refused 3 zeros) = sym (ap (answered zeros) e) ∙ be in
       by-test (lawful_limit narrow)
-      (λ e. (sym (narrow_lawful limit narrow is) ∙ e, be ∙ cond-true _ _ e ∙ ap good (sym (narrow_same limit narrow is e))))
-      (λ e. absurd (never (sym (ap number (be ∙ cond-false _ _ e)) ∙ z)))
+      (λ l. (sym (narrow_lawful limit narrow is) ∙ l, ap (λ (a : Answer S). a.value) (ok ∙ cond-true _ _ l) ∙ ap good (sym (narrow_same limit narrow is l))))
+      (λ l. let z : ◌≡◌ {A = ℕ} 0 3 = ap (λ (a : Answer S). a.number) (ok ∙ cond-false _ _ l) in absurd (omega arith))
 
-  pub begun_unlawful : ((n : ℕ) → number (good n) ≡ 0) → (number begun ≡ 0 → ⊥) → (lawful_limit limit ≡ false) × (begun ≡ bad)
-  begun_unlawful none nz =
+  pub begun_unlawful : (r : Refusal) → begun ≡ Err r → (lawful_limit limit ≡ false) × (refusal_number r ≡ 3)
+  begun_unlawful r e =
+      let is_not : refused (refusal_number r) zeros ≡ cond (lawful_limit narrow) (accepted (good narrow)) (refused 3 zeros) = sym (ap (answered zeros) e) ∙ be in
       by-test (lawful_limit narrow)
-      (λ e. absurd (nz (ap number (be ∙ cond-true _ _ e) ∙ none narrow)))
-      (λ e. (sym (narrow_lawful limit narrow is) ∙ e, be ∙ cond-false _ _ e))
+      (λ l. let z = ap (λ (a : Answer S). a.number) (is_not ∙ cond-true _ _ l) in let some = some_number r in absurd (omega arith))
+      (λ l. (sym (narrow_lawful limit narrow is) ∙ l, ap (λ (a : Answer S). a.number) (is_not ∙ cond-false _ _ l)))
+
+-- a refused state is handed back
+pub handed_back : {S : Type 0} (back : S) (r : Result S Refusal) → result_unwrap_or r back ≡ (answered back r).value
+handed_back back (Ok s) = refl
+handed_back back (Err e) = refl

@@ -8,7 +8,7 @@ use lib.ListN.{length, take}
 use Rattle.text.specs.declared.Place.{Place}
 use Rattle.text.specs.Places.{front, moved_by, put_at, Holds}
 use Rattle.text.proofs.PlaceLaws.{holds-front, holds_more}
-use Rattle.std.specs.Prelude.{Result, Ok, Err}
+use Rattle.std.specs.Prelude.{Result, Ok}
 use Rattle.reading.specs.declared.CantRead.{CantRead}
 use Rattle.reading.specs.Reads.{Feeder, Standing, ReadOut, Piecewise}
 use Rattle.reading.specs.Pages.{Behind, nothing, anything, Prints, Telling, unlawful, told, unread}
@@ -26,6 +26,14 @@ module _ (text bytes : List ℕ) (q : Place) (h : Holds text q bytes) where
 
   pub page_says : take q.at text ≡ bytes
   page_says = ap (λ (x : Place). take x.at text) h.place ∙ h.front
+
+-- ---- unlawful words
+-- a line that is put to the front where the words are unlawful, and is then the text for any input
+pub refused-says : {S : Type 0} (p : Feeder S) (begun : S) (lawful : Bool) (page : List ℕ → List ℕ) (line text after : List ℕ) (q : Place) → lawful ≡ false → ((bytes : List ℕ) → line ≡ page bytes)
+    → length line ≤ length text → q ≡ moved_by (length text) front (length line) → after ≡ put_at text front line → Prints p begun lawful page after (Ok q.at)
+refused-says p begun lawful page line text after q is says fits qe ae =
+    let held = holds_put text after line q fits qe ae in
+    unlawful q.at (page_fits after line q held) is (λ bytes. page_says after line q held ∙ says bytes)
 
 -- ---- an input that was read
 module _ {S : Type 0} (p : Feeder S) (begun : S) (laws : Piecewise p begun) (page : List ℕ → List ℕ) (say : S → List ℕ) (tells : Telling p begun page say) where

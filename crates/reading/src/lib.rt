@@ -13,7 +13,7 @@ ghost use Rattle.reading.specs.Words.{limit_given};
 use rules::Judge;
 use std::env::{Env, FillError};
 use std::io::{Read, Stdin, Write};
-use text::{Number, Place};
+use text::Place;
 
 // The descriptors of a program's input and of what it writes.
 pub const STDIN: i32 = 0;
@@ -108,11 +108,7 @@ fn take_in<M: Machine>(bytes: &[u8], failed: bool, input: Input<M::State>) -> In
 }
 
 // Reads once more.
-fn read_more<M: Machine>(
-    stdin: Stdin,
-    buffer: &mut [u8],
-    input: Input<M::State>,
-) -> Input<M::State>
+fn read_more<M: Machine>(stdin: Stdin, buffer: &mut [u8], input: Input<M::State>) -> Input<M::State>
     ensures { (got : ℤ) × (result ≡ after_read M.feeder input (record { got = got; buffer = buffer.new })) }
 {
     let got = read_once(stdin, buffer);
@@ -120,11 +116,7 @@ fn read_more<M: Machine>(
 }
 
 // Reads until it need read no more.
-pub fn read_all<M: Machine>(
-    stdin: Stdin,
-    buffer: &mut [u8],
-    begun: M::State,
-) -> Input<M::State>
+pub fn read_all<M: Machine>(stdin: Stdin, buffer: &mut [u8], begun: M::State) -> Input<M::State>
     ensures { (fresh : M.State) → begun ≡ fresh → Piecewise M.feeder fresh → ReadOut M.feeder fresh result }
 {
     let mut input = Input {
@@ -160,12 +152,7 @@ pub fn complain<E: Write>(err: &mut E, line: &[u8]) -> bool
 }
 
 // Writes a page to standard output, and complains where it can't. Answers whether all of the page was written.
-pub fn print<O: Write, E: Write>(
-    out: &mut O,
-    err: &mut E,
-    page: &[u8],
-    complaint: &[u8],
-) -> bool
+pub fn print<O: Write, E: Write>(out: &mut O, err: &mut E, page: &[u8], complaint: &[u8]) -> bool
     ensures page { result ≡ true → Appends (O.contents out.old) (O.contents out.new) page.now }
     ensures silent { result ≡ true → err.new ≡ err.old }
 {
@@ -203,14 +190,14 @@ pub fn narrowed(number: u64) -> u8
 
 // The hold limit of a program that takes nothing else: 16, or what its one argument says.
 #[tactic(auto, unfolding(crate::specs::Words::limit_given))]
-pub fn limit_given(words: usize, second: &[u8]) -> Number
+pub fn limit_given(words: usize, second: &[u8]) -> Option<u64>
     ensures { result ≡ limit_given words second.now }
 {
     if words < 2 {
-        return Number::Is(16);
+        return Some(16);
     }
     if 2 < words {
-        return Number::NotANumber;
+        return None;
     }
     text::number_in(second)
 }

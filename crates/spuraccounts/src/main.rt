@@ -10,7 +10,7 @@ ghost use Rattle.spuraccounts.specs.Pages.{accounting, Prints};
 
 use reading::{CantRead, Machine};
 use std::io::Stdin;
-use text::{Number, Place};
+use text::Place;
 use usage::Ledger;
 
 // ---- the account
@@ -75,8 +75,8 @@ fn main(rt: HostRuntime) {
     let mut word = io::buffer();
     let size = reading::word_given(&rt, 1, &mut word);
     match reading::limit_given(reading::words_given(&rt), &word[..size]) {
-        Number::Is(limit) => account(&rt, limit),
-        Number::NotANumber => {
+        Some(limit) => account(&rt, limit),
+        None => {
             reading::complain(
                 &mut rt.stderr(),
                 b"spuraccounts: the hold limit is to be one number\n",

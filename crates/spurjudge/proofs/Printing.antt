@@ -45,24 +45,3 @@ module _ (limit : ℕ) (lawful : lawful_limit limit ≡ true) where
         says = λ bytes. page_says_of _ bytes (ending_says bytes);
         rest = λ bytes rest ended. sym (page_says_of _ (bytes ++ rest) (sym (behind-same bytes rest ended))) ∙ page_says_of _ bytes refl;
       }
-
--- ---- the limit
-module _ (limit narrow : ℕ) (begun : Fed) (ne : narrow ≡ min limit 255) (be : begun ≡ fresh_of narrow) where
-  pub begun_lawful : begun.number ≡ 0 → (lawful_limit limit ≡ true) × (begun.stream ≡ fresh_stream limit)
-  unfolding fresh_of
-  begun_lawful z =
-      let h = begins-lawful (λ (r : Fed). r.number) (λ n. record { number = 0; stream = fresh_stream n }) _ begun limit narrow ne be (λ e. omega arith) z in
-      (h.0, ap (λ (r : Fed). r.stream) h.1)
-
-  refused-limit : (begun.number ≡ 0 → ⊥) → (lawful_limit limit ≡ false) × (begun.number ≡ 3)
-  unfolding fresh_of
-  refused-limit nz =
-      let h = begins-unlawful (λ (r : Fed). r.number) (λ n. record { number = 0; stream = fresh_stream n }) _ begun limit narrow ne be (λ n. refl) nz in
-      (h.0, ap (λ (r : Fed). r.number) h.1)
-
-pub refused_says : (limit narrow : ℕ) (begun : Fed) (text after : List ℕ) (q : Place) → length text ≡ 256 → narrow ≡ min limit 255 → begun ≡ fresh_of narrow → (begun.number ≡ 0 → ⊥)
-    → q ≡ moved_by (length text) front (length (refused_line begun.number)) → after ≡ put_at text front (refused_line begun.number) → Prints limit after (Ok q.at)
-refused_says limit narrow begun text after q size ne be nz qe ae =
-    let refusal = refused-limit limit narrow begun ne be nz in
-    let held = holds_put text after (refused_line begun.number) q (let h = refusal-most begun.number in omega arith) qe ae in
-    unlawful q.at (page_fits after _ q held) refusal.0 (λ bytes. page_says after _ q held ∙ ap refused_line refusal.1 ∙ sym (cond-false _ _ refusal.0))

@@ -6,7 +6,7 @@ use mathlib.Core.Path.{◌≡◌, refl, sym, ap, ◌∙◌}
 use native.Mathlib.Omega.{arith}
 use lib.ListN.{length}
 use Rattle.feeding.specs.declared.Stream.{Stream}
-use Rattle.feeding.specs.declared.Fed.{Fed}
+use Rattle.basics.specs.Answers.{Answer}
 use Rattle.basics.specs.Numbers.{lawful_limit}
 use Rattle.rules.specs.State.{fresh_judge, zero_tally}
 use Rattle.feeding.specs.State.{goes, gone_on, fresh_stream, feed_of, fed_of}
@@ -25,15 +25,15 @@ module _ (limit : ℕ) (lawful : lawful_limit limit ≡ true) where
   fed-one bytes = fed-all limit (bytes ∷ []) ∙ ap (state_of limit) (append-nil bytes)
 
   pub fed-first : (bytes : List ℕ) → judging.fed (fresh_stream limit) bytes ≡ fed_all (fresh_stream limit) (bytes ∷ [])
-  fed-first bytes = ap (λ (r : Fed). r.stream) ((feeding limit lawful).accepts [] bytes)
+  fed-first bytes = ap (λ (r : Answer Stream). r.value) ((feeding limit lawful).accepts [] bytes)
 
   fed_is : (bytes : List ℕ) → judging.fed (fresh_stream limit) bytes ≡ state_of limit bytes
   fed_is bytes = fed-first bytes ∙ fed-one bytes
 
   fed_on : (bytes piece : List ℕ) → judging.fed (state_of limit bytes) piece ≡ state_of limit (bytes ++ piece)
   fed_on bytes piece =
-      ap (λ (s : Stream). (fed_of s piece).stream) (sym (fed-one bytes))
-      ∙ ap (λ (r : Fed). r.stream) ((feeding limit lawful).accepts (bytes ∷ []) piece)
+      ap (λ (s : Stream). (fed_of s piece).value) (sym (fed-one bytes))
+      ∙ ap (λ (r : Answer Stream). r.value) ((feeding limit lawful).accepts (bytes ∷ []) piece)
       ∙ ap (λ (s : Stream). feed_of s piece) (fed-one bytes)
       ∙ feed_more (fresh_judge limit) zero_tally (omega arith) bytes piece
 
@@ -47,6 +47,6 @@ module _ (limit : ℕ) (lawful : lawful_limit limit ≡ true) where
       record {
         goes = refl;
         none = fed_is [] ∙ sym (fed-all limit []);
-        more = λ bytes piece. ap (λ (s : Stream). (fed_of s piece).stream) (fed_is bytes) ∙ fed_on bytes piece ∙ sym (fed_is (bytes ++ piece));
+        more = λ bytes piece. ap (λ (s : Stream). (fed_of s piece).value) (fed_is bytes) ∙ fed_on bytes piece ∙ sym (fed_is (bytes ++ piece));
         within = fed-within;
       }

@@ -10,7 +10,7 @@ use Rattle.reading.specs.Pages.{Prints as PrintsOf}
 
 -- what is read is fed to the judge, and no more of it counts once the judging has ended
 abbrev pub judging : Feeder Stream
-judging = record { fed = λ s piece. (fed_of s piece).stream; going = λ s. goes s.stop }
+judging = record { fed = λ s piece. (fed_of s piece).value; going = λ s. goes s.stop }
 
 -- the program reads no more: all that its reads brought, in order, has been fed to a fresh judge
 abbrev pub ReadOut : ℕ → Standing Stream → Type 0

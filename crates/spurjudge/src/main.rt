@@ -11,7 +11,7 @@ ghost use Rattle.spurjudge.specs.Pages.{judging, Prints};
 use feeding::Stream;
 use reading::{CantRead, Machine};
 use std::io::Stdin;
-use text::{Number, Place};
+use text::Place;
 
 // ---- judging
 
@@ -26,7 +26,7 @@ impl Machine for Judging {
     ghost says = { λ s. lines_of (finish_of s) };
 
     fn feed(stream: Stream, piece: &[u8]) -> Stream {
-        stream::feed(stream, piece).stream
+        stream::feed(stream, piece).unwrap_or(stream)
     }
 
     fn wants_more(stream: &Stream) -> bool {
@@ -43,13 +43,13 @@ fn judge_input(stdin: Stdin, limit: u64, buffer: &mut [u8], text: &mut [u8]) -> 
     requires { length text.old ≡ 256 }
     ensures { Prints limit text.new result }
 {
-    let begun = stream::fresh(reading::narrowed(limit));
-    if begun.number != 0 {
-        let line = printed::put_refused(text, Place::front(), begun.number);
-        return Ok(line.at);
+    match stream::fresh(reading::narrowed(limit)) {
+        Ok(fresh) => {
+            let input = reading::read_all::<Judging>(stdin, buffer, fresh);
+            reading::told::<Judging>(input, text)
+        }
+        Err(refusal) => Ok(printed::put_refused(text, Place::front(), refusal.number()).at),
     }
-    let input = reading::read_all::<Judging>(stdin, buffer, begun.stream);
-    reading::told::<Judging>(input, text)
 }
 
 // ---- the program
@@ -75,8 +75,8 @@ fn main(rt: HostRuntime) {
     let mut word = io::buffer();
     let size = reading::word_given(&rt, 1, &mut word);
     match reading::limit_given(reading::words_given(&rt), &word[..size]) {
-        Number::Is(limit) => judge(&rt, limit),
-        Number::NotANumber => {
+        Some(limit) => judge(&rt, limit),
+        None => {
             reading::complain(
                 &mut rt.stderr(),
                 b"spurjudge: the hold limit is to be one number\n",

@@ -1,26 +1,27 @@
 -- `spurjudge::judge_input` meets its contract. Assumes nothing.
-use mathlib.Core.Path.{sym, subst}
+use mathlib.Core.Path.{ap, sym, ◌∙◌}
 use native.Mathlib.Omega.{arith}
 use Rattle.basics.specs.Numbers.{lawful_limit}
-use Rattle.feeding.specs.declared.Stream.{Stream}
-use Rattle.feeding.specs.State.{fresh_stream, finish_of}
-use Rattle.printed.specs.Lines.{page_of}
-use Rattle.printed.proofs.LineLaws.{lines-most}
-use Rattle.reading.specs.Reads.{Piecewise, ReadOut as ReadOutOf}
+use Rattle.basics.proofs.Bools.{cond-false}
+use Rattle.feeding.specs.State.{fresh_stream, no_stream, fresh_of, finish_of}
+use Rattle.printed.specs.Lines.{refused_line, page_of}
+use Rattle.printed.proofs.LineLaws.{lines-most, refusal-most}
+use Rattle.reading.proofs.Narrow.{begun_lawful, begun_unlawful}
+use Rattle.reading.proofs.Printing.{refused-says}
 use Rattle.spurjudge.specs.Pages.{judging}
 use Rattle.spurjudge.proofs.Reading.{judging_pieces}
-use Rattle.spurjudge.proofs.Printing.{refused_says, begun_lawful, judging_tells}
+use Rattle.spurjudge.proofs.Printing.{judging_tells}
 use Rattle.spurjudge.proofs.judge_input.Goals as goal
 
-pub returns-then-begun-ne0 : goal.returns-then-begun-ne0
-returns-then-begun-ne0 c = let a = c.args in
-    let e = rw c.front.ensures at c.put_refused-line.ensures in
-    refused_says a.limit c.narrowed.result c.fresh-begun.result a.text.now c.put_refused-line.new.buffer c.put_refused-line.result c.requires c.narrowed.ensures c.fresh-begun.ensures c.if-begun-ne0.true e.0 e.1
-
-pub returns : goal.returns
-returns c = let a = c.args in
-    let begun = begun_lawful a.limit c.narrowed.result c.fresh-begun.result c.narrowed.ensures c.fresh-begun.ensures c.if-begun-ne0.false in
+pub returns-in-Ok : goal.returns-in-Ok
+unfolding fresh_of
+returns-in-Ok c = let a = c.args in
+    let begun = begun_lawful fresh_stream no_stream a.limit _ c.narrowed.ensures _ c.fresh.ensures _ c.in-Ok.is in
     let laws = judging_pieces a.limit begun.0 in
     let out = c.read_all-input.ensures (fresh_stream a.limit) begun.1 laws in
     let most = lines-most (finish_of c.read_all-input.result.state) in
     c.told.ensures (fresh_stream a.limit) (lawful_limit a.limit) (page_of a.limit) begun.0 laws (judging_tells a.limit begun.0) (omega arith) out
+
+pub returns-in-Err : goal.returns-in-Err
+unfolding fresh_of
+returns-in-Err c = let a = c.args in ?
