@@ -2,14 +2,13 @@
 // cycles before. What the state is after a record that breaks none stands in the crate `judge`; the definitions of both, in `rules`.
 #![tactic(auto)]
 
-ghost use Rattle.std.specs.Prelude.{◌≡◌, if◌then◌else◌};
+ghost use Rattle.std.specs.Prelude.{◌≡◌};
 ghost use Rattle.rules.specs.Rules.{rule1, rule2, rule3, rule4, rule5, rule6, rule7, rule8a, rule8b, rule8c, rule9, rule10, rule11, rule12, rule13};
-ghost use Rattle.rules.specs.State.{open_words, open_strobes, open_age, asked_of, twice_of, diff_of};
-ghost use Rattle.rules.specs.Names.{only, no_rule};
+ghost use Rattle.rules.specs.State.{is_owned, asked_of, twice_of, diff_of};
 ghost use Rattle.rules.specs.Run.{lowest, later_rules, rule_of};
 
 use record::Record;
-use rules::{Judge, Rule, Transfer, Wave};
+use rules::{Judge, Rule, Wave};
 
 // The watchdog, as the sums of ages are.
 pub const AGE_MOST: u64 = Judge::WATCHDOG as u64;
@@ -22,41 +21,10 @@ pub fn difference(judge: Judge, stamp: u32) -> u32
     ensures { result ≡ diff_of judge stamp }
 {
     let seen = judge.seen;
-    let last = judge.stamp;
     if seen {
-        std::num::wrapping_sub_u32(stamp, last)
+        stamp.wrapping_sub(judge.stamp)
     } else {
         0
-    }
-}
-
-// The open transfer's numbers, 0 where none is open.
-#[derive(Clone, Copy)]
-struct Counts {
-    words: u8,
-    strobes: u8,
-    age: u16,
-}
-
-fn counts_of(transfer: Transfer) -> Counts
-    ensures { (result.words ≡ open_words transfer) × ((result.strobes ≡ open_strobes transfer) × (result.age ≡ open_age transfer)) }
-{
-    match transfer {
-        Transfer::Idle => Counts {
-            words: 0,
-            strobes: 0,
-            age: 0,
-        },
-        Transfer::Open {
-            words,
-            strobes,
-            age,
-            busy: _,
-        } => Counts {
-            words: words,
-            strobes: strobes,
-            age: age,
-        },
     }
 }
 
@@ -118,10 +86,10 @@ fn code_known(start: bool, ack: bool, words: u8) -> bool
 }
 
 // Rule 8a.
-fn parked_by_owner(start: bool, asked: bool, owned: bool) -> bool
-    ensures { result ≡ rule8a start asked owned }
+fn parked_by_owner(start: bool, asked: bool, owner: Option<u8>) -> bool
+    ensures { result ≡ rule8a start asked (is_owned owner) }
 {
-    !(start & !asked) | owned
+    !(start & !asked) | owner.is_some()
 }
 
 // Rule 8b.
@@ -166,7 +134,7 @@ fn young(busy: bool, age: u16, d: u32) -> bool
 fn strobes_right(busy: bool, words: u8, strobes: u8, lines: Record) -> bool
     ensures { result ≡ rule13 busy words strobes lines.start lines.ack lines.tm1 lines.tm0 }
 {
-    let strobe = (1 < words) & lines.tm0 & !lines.start & !lines.ack;
+    let strobe = rules::is_strobe(words, lines.start, lines.ack, lines.tm0);
     let with = strobes as u32 + 1;
     (!(busy & strobe) | (with < words as u32))
         & (!(busy & lines.ack & lines.tm1 & lines.tm0) | (with == words as u32))
@@ -174,85 +142,66 @@ fn strobes_right(busy: bool, words: u8, strobes: u8, lines: Record) -> bool
 
 // ---- the lowest of them
 
-// This rule where it does not hold, and otherwise what the later ones say.
-fn first(holds: bool, number: u8, rest: Rule) -> Rule
-    ensures { result ≡ (if holds then rest else only number) }
+// The rules from 3 up that apply to a record without RESET, in their order, and whether it keeps them.
+fn later_rules(judge: Judge, lines: Record, d: u32) -> [(Rule, bool); 13]
+    ensures { result ≡ later_rules judge lines d }
 {
-    if holds {
-        return rest;
-    }
-    Rule {
-        number: number,
-        kind: 0,
-    }
-}
-
-// The same of a kind of rule 8.
-fn first_kind(holds: bool, kind: u8, rest: Rule) -> Rule
-    ensures { result ≡ (if holds then rest else (record { number = 8; kind = kind })) }
-{
-    if holds {
-        return rest;
-    }
-    Rule {
-        number: 8,
-        kind: kind,
-    }
-}
-
-// The lowest rule from 3 up that a record without RESET breaks.
-fn lowest_rule(judge: Judge, lines: Record, d: u32) -> Rule
-    ensures { result ≡ lowest (later_rules judge lines d) }
-{
-    let transfer = judge.transfer;
+    let (start, ack, arb) = (lines.start, lines.ack, lines.arb);
     let wave = judge.wave;
-    let arb = lines.arb;
-    let start = lines.start;
-    let ack = lines.ack;
-    let busy = rules::is_open(transfer);
-    let open = counts_of(transfer);
+    let busy = rules::is_open(judge.transfer);
+    let open = judge.transfer.counts();
     let one = asked(wave, d);
     let two = asked_twice(wave, d);
     let since = wave.since as u64 + d as u64;
-    let owner = wave.owner;
     let owed = codes::words_owed(lines.tm0, lines.ad);
     let odd = codes::parity(lines.ad);
     let within = turn_within(judge.limit, start, one, arb, wave.arb, wave.turn);
-    let none = Rule { number: 0, kind: 0 };
-    let r13 = first(
-        strobes_right(busy, open.words, open.strobes, lines),
-        13,
-        none,
-    );
-    let r12 = first(young(busy, open.age, d), 12, r13);
-    let r11 = first(within, 11, r12);
-    let r10 = first(arb_falls(start, one, arb, wave.arb), 10, r11);
-    let r9 = first(request_kept(wave.rqst, d, lines.rqst, start), 9, r10);
-    let r8c = first_kind(starts_apart(start, one, since), 3, r9);
-    let r8b = first_kind(asked_long(start, one, two), 2, r8c);
-    let r8a = first_kind(parked_by_owner(start, one, rules::is_owned(owner)), 1, r8b);
-    let r7 = first(code_known(start, ack, owed), 7, r8a);
-    let r6 = first(attention_lines(start, ack, lines.tm1, lines.tm0), 6, r7);
-    let r5 = first(ack_while_open(busy, start, ack), 5, r6);
-    let r4 = first(start_while_idle(busy, start), 4, r5);
-    first(parity_right(lines.spv, lines.sp, odd), 3, r4)
+    let counted = strobes_right(busy, open.words, open.strobes, lines);
+    [
+        (Rule::only(3), parity_right(lines.spv, lines.sp, odd)),
+        (Rule::only(4), start_while_idle(busy, start)),
+        (Rule::only(5), ack_while_open(busy, start, ack)),
+        (
+            Rule::only(6),
+            attention_lines(start, ack, lines.tm1, lines.tm0),
+        ),
+        (Rule::only(7), code_known(start, ack, owed)),
+        (Rule::eighth(1), parked_by_owner(start, one, wave.owner)),
+        (Rule::eighth(2), asked_long(start, one, two)),
+        (Rule::eighth(3), starts_apart(start, one, since)),
+        (Rule::only(9), request_kept(wave.rqst, d, lines.rqst, start)),
+        (Rule::only(10), arb_falls(start, one, arb, wave.arb)),
+        (Rule::only(11), within),
+        (Rule::only(12), young(busy, open.age, d)),
+        (Rule::only(13), counted),
+    ]
 }
 
-// "If RESET is active, .. no further rule applies."
-fn unless_reset(reset: bool, rule: Rule) -> Rule
-    ensures { result ≡ (if reset then no_rule else rule) }
+// The first rule of a list that does not hold, and none where all do.
+fn lowest(tests: [(Rule, bool); 13]) -> Rule
+    ensures { result ≡ lowest tests }
 {
-    if reset {
-        return Rule { number: 0, kind: 0 };
+    for (rule, holds) in tests {
+        if !holds {
+            return rule;
+        }
     }
-    rule
+    Rule::default()
 }
 
-// The lowest rule that a record breaks, by number and kind, both 0 where it breaks none.
+// The lowest rule that a record breaks, by number and kind, both 0 where it breaks none. "If RESET is active, .. no further rule applies."
+#[tactic(auto, unfolding(rules::specs::Run::rule_of))]
 pub fn rule_of(judge: Judge, lines: Record, spare: u16, d: u32) -> Rule
     ensures { result ≡ rule_of judge (record { lines = lines; spare = spare }) d }
 {
-    let r3 = unless_reset(lines.reset, lowest_rule(judge, lines, d));
-    let r2 = first(stamp_later(judge.seen, d), 2, r3);
-    first(spare_zero(spare), 1, r2)
+    if !spare_zero(spare) {
+        return Rule::only(1);
+    }
+    if !stamp_later(judge.seen, d) {
+        return Rule::only(2);
+    }
+    if lines.reset {
+        return Rule::default();
+    }
+    lowest(later_rules(judge, lines, d))
 }

@@ -7,10 +7,10 @@ use lib.ListN.{length}
 use lib.Dec.{eqb, leb}
 use borrow.Author.Tests.{eqb-true, eqb-false}
 use Rattle.basics.specs.Order.{unless}
-use Rattle.std.specs.Prelude.{Result, Ok, Err}
+use Rattle.std.specs.Prelude.{Result}
 use Rattle.basics.specs.Answers.{Answer}
 use Rattle.basics.specs.declared.refusal.Refusal.{Refusal}
-use Rattle.basics.specs.declared.refusal.Refusal.TheVariants.{Length, Place, Value, Code, Bounds, Room, Incoherent, TooMany, Marks}
+use Rattle.basics.proofs.Refusals.{result_of, result_again}
 use Rattle.basics.proofs.Bools.{choice, by-test}
 use Rattle.rules.specs.declared.Judge.{Judge}
 use Rattle.rules.specs.declared.Tally.{Tally}
@@ -21,37 +21,13 @@ use Rattle.rules.specs.declared.Verdict.{Verdict}
 use Rattle.rules.specs.declared.Verdict.TheVariants.{Conforming, Breach, OutOfBounds, TooMany, Torn}
 use Rattle.rules.specs.Bounds.{judge_bounds, tally_bounds}
 use Rattle.rules.specs.Run.{from, run_of, records_in}
-use Rattle.rules.specs.Verdict.{most_records, fresh_answer, refusal_of, refused_by, verdict_of, outcome_of, Finding, verdict_answer}
+use Rattle.rules.specs.Verdict.{most_records, no_judge, fresh_answer, refusal_of, refused_by, verdict_of, outcome_of, Finding, verdict_answer}
 use Rattle.rules.proofs.Laws.{outcome-judged, outcome-refused}
 
 -- ---- nothing is lost
--- the refusal of a number
-abbrev refusal_by : ℕ → Refusal
-refusal_by n =
-    cond (eqb n 1) Length
-    (cond (eqb n 2) Place
-    (cond (eqb n 3) Value
-    (cond (eqb n 4) Code
-    (cond (eqb n 5) Bounds
-    (cond (eqb n 6) Room
-    (cond (eqb n 7) Incoherent
-    (cond (eqb n 8) TooMany Marks)))))))
-
 -- the constructor's answer, from its number and value
-abbrev fresh_from : Answer Judge → Result Judge Refusal
-fresh_from a = cond (eqb a.number 0) (Ok a.value) (Err (refusal_by a.number))
-
-pub fresh_back : (f : Result Judge Refusal) → fresh_from (fresh_answer f) ≡ f
-fresh_back (Ok j) = refl
-fresh_back (Err Length) = refl
-fresh_back (Err Place) = refl
-fresh_back (Err Value) = refl
-fresh_back (Err Code) = refl
-fresh_back (Err Bounds) = refl
-fresh_back (Err Room) = refl
-fresh_back (Err Incoherent) = refl
-fresh_back (Err TooMany) = refl
-fresh_back (Err Marks) = refl
+pub fresh_back : (f : Result Judge Refusal) → result_of (fresh_answer f) ≡ f
+fresh_back = result_again no_judge
 
 -- a breach and a verdict, from its number and values
 abbrev pub broken_from : Finding → Broken

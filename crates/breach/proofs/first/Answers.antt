@@ -1,7 +1,0 @@
--- `breach::first` meets its contract. Assumes nothing.
-use Rattle.std.proofs.Common.{sym}
-use Rattle.basics.proofs.Bools.{cond-false}
-use Rattle.breach.proofs.first.Goals as goal
-
-pub returns : goal.returns
-returns c = sym (cond-false _ _ c.if-holds.false)
