@@ -3,36 +3,34 @@
 #![tactic(auto)]
 
 ghost use Rattle.std.specs.Prelude.{◌≡◌, length};
+ghost use Rattle.text.specs.Pages.{grown};
 ghost use Rattle.text.specs.Places.{moved_by, put_at};
-ghost use Rattle.printed.specs.Adding.{Adds};
 ghost use Rattle.fleetlines.specs.Lines.{figures_text, rest_text, summary_line};
 
 use fleet::Summary;
-use text::Place;
+use text::{Page, Place};
 
 // Enough for the line, however many digits the numbers have.
 const LINE: usize = 192;
 
 // The figures behind the count.
-fn put_figures(page: &mut [u8], place: Place, s: Summary) -> Place
-    ensures { Adds page.old place page.new result (figures_text s) }
+fn put_figures<const N: usize>(page: &mut Page<N>, s: Summary)
+    ensures { page.new ≡ grown N page.old (figures_text s) }
 {
-    let least = text::put_named(page, place, b" least ", s.least);
-    let median = text::put_named(page, least, b" median ", s.median);
-    let greatest = text::put_named(page, median, b" greatest ", s.greatest);
-    let mean = text::put_named(page, greatest, b" mean ", s.mean);
-    text::put_named(page, mean, b" remainder ", s.remainder)
+    page.put_named(b" least ", s.least);
+    page.put_named(b" median ", s.median);
+    page.put_named(b" greatest ", s.greatest);
+    page.put_named(b" mean ", s.mean);
+    page.put_named(b" remainder ", s.remainder);
 }
 
 // Of no numbers there is nothing to say but their count.
-fn put_rest(page: &mut [u8], place: Place, s: Summary) -> Place
-    ensures { Adds page.old place page.new result (rest_text s) }
+fn put_rest<const N: usize>(page: &mut Page<N>, s: Summary)
+    ensures { page.new ≡ grown N page.old (rest_text s) }
 {
     let none = s.count == 0;
-    if none {
-        place
-    } else {
-        put_figures(page, place, s)
+    if !none {
+        put_figures(page, s);
     }
 }
 
@@ -40,11 +38,9 @@ fn put_rest(page: &mut [u8], place: Place, s: Summary) -> Place
 pub fn put_summary(buffer: &mut [u8], place: Place, s: Summary) -> Place
     ensures { (result ≡ moved_by (length buffer.old) place (length (summary_line s))) × (buffer.new ≡ put_at buffer.old place (summary_line s)) }
 {
-    let start = Place::front();
-    let mut page = [0u8; LINE];
-    let count = text::put_named(&mut page, start, b"count ", s.count as u64);
-    let rest = put_rest(&mut page, count, s);
-    let line = text::put_word(&mut page, rest, b"\n");
-    let size = line.at;
-    text::put_word(buffer, place, &page[..size])
+    let mut page = Page::<LINE>::new();
+    page.put_named(b"count ", s.count as u64);
+    put_rest(&mut page, s);
+    page.put(b"\n");
+    page.put_into(buffer, place)
 }

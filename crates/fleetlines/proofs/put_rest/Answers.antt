@@ -1,10 +1,10 @@
 -- `fleetlines::put_rest` meets its contract. Assumes nothing.
-use Rattle.printed.proofs.AddingLaws.{adds_none, adds_as}
+use Rattle.text.proofs.PageLaws.{grown_nil}
 use Rattle.fleetlines.proofs.LineLaws.{rest-none, rest_some}
 use Rattle.fleetlines.proofs.put_rest.Goals as goal
 
-pub returns-then-none : goal.returns-then-none
-returns-then-none c = adds_as (rest-none c.args.s c.if-none.true) adds_none
+pub returns-then-not-none : goal.returns-then-not-none
+returns-then-not-none g c = rw (rest_some c.args.s c.if-not-none.true) c.put_figures.ensures
 
-pub returns-else-none : goal.returns-else-none
-returns-else-none c = adds_as (rest_some c.args.s c.if-none.false) c.put_figures.ensures
+pub returns-else-not-none : goal.returns-else-not-none
+returns-else-not-none g c = rw (rest-none c.args.s c.if-not-none.false, grown_nil)
