@@ -1,11 +1,15 @@
 -- Laws of the highest member. Assumes nothing.
-use Prim.Native.Nat.{ℕ, zero, suc, ◌≤◌, ◌<◌}
+use Prim.Native.Nat.{ℕ, zero, suc, ◌+◌, ◌-◌, ◌*◌, ◌/◌, ◌^◌, ◌≤◌, ◌<◌}
 use mathlib.Core.Path.{◌≡◌, refl, sym, ◌∙◌}
 use mathlib.Core.Bool.{Bool, true, false, true≢false}
 use native.Mathlib.Omega.{arith}
-use native.Mathlib.Decide.{ℕ_discrete}
+use native.Mathlib.Decide.{ℕ_discrete, dec_lt}
+use native.Mathlib.Nat.{pow-succ'}
+use lib.Pow.{high, pow_mono}
+use Rattle.basics.specs.Lines.{bit, active}
 use Rattle.basics.proofs.Bools.{choice}
-use Rattle.slots.specs.Set.{mem, top_below}
+use Rattle.basics.proofs.Bits.{weight_le, active-bit}
+use Rattle.slots.specs.Set.{mem, top, top_below}
 
 -- the highest member is a member, unless there is none
 pub data Top (k w : ℕ) : Type 0 where
@@ -47,3 +51,22 @@ unfolding top_below
 top_less zero w = choice (λ n. n < 1) (mem 0 w) (λ e. omega arith) (λ e. omega arith)
 top_less (suc k) w =
     choice (λ n. n < suc (suc k)) (mem (suc k) w) (λ e. omega arith) (λ e. omega (arith, top_less k w))
+
+-- a number's highest bit is its highest member
+pub top_power : (w r : ℕ) → r < 16 → 2 ^ r ≤ w → w < 2 * 2 ^ r → r ≡ top w
+unfolding active bit
+top_power w r small le lt = go (top_view 16 w)
+  where
+    one : w / 2 ^ r ≡ 1
+    one = let e : 1 * 2 ^ r + (w - 2 ^ r) ≡ w = omega arith in rw e at (high 1 r {lo = w - 2 ^ r} (omega arith))
+
+    is : mem r w ≡ true
+    is = rw one
+
+    go : Top 16 w → r ≡ top w
+    go (found e l) =
+        let most : r ≤ top w = top_most 16 w r small is in
+        let weight : 2 ^ top w ≤ w = weight_le (top w) w (active-bit (top w) w e) in
+        let next : 2 ^ suc r ≡ 2 * 2 ^ r = rw pow-succ' (omega arith) in
+        elim (dec_lt (top w) (suc r)) [ yes b ↦ omega arith | no b ↦ absurd (omega (arith, pow_mono {i = suc r} {j = top w} (omega arith))) ]
+    go (bare f) = absurd (true≢false (sym is ∙ f r small))

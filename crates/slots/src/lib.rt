@@ -1,8 +1,9 @@
 // Sets of slots 0 to 15, as the bits of a u16. A slot over 15 is in no set: every function takes every input.
+// Stays: functions of a u16 and no type of its own, since the driver's callers, `Bus` and `Demand` hold sets as numbers, and 01's lines are one too.
 #![tactic(auto)]
 
-ghost use Rattle.std.specs.Prelude.{◌≡◌, cond, ◌≤◌, ltb};
-ghost use Rattle.slots.specs.Set.{mem, including, without, top, top_below, card};
+ghost use Rattle.std.specs.Prelude.{◌≡◌, cond, ltb};
+ghost use Rattle.slots.specs.Set.{mem, including, without, top, card};
 
 // The slot is in the set.
 pub fn member(set: u16, slot: u8) -> bool
@@ -23,7 +24,7 @@ pub fn with(set: u16, slot: u8) -> u16
         if member(set, slot) {
             set
         } else {
-            set + (1u16 << slot)
+            set + (1 << slot)
         }
     } else {
         set
@@ -35,23 +36,9 @@ pub fn without(set: u16, slot: u8) -> u16
     ensures { result ≡ without slot set }
 {
     if member(set, slot) {
-        set - (1u16 << slot)
+        set - (1 << slot)
     } else {
         set
-    }
-}
-
-// The highest member below slot k, looked for from the top down.
-fn highest_below(set: u16, k: u8) -> u8
-    requires { k ≤ 16 }
-    ensures { result ≡ top_below k set }
-{
-    if k == 0 {
-        0
-    } else if member(set, k - 1) {
-        k - 1
-    } else {
-        highest_below(set, k - 1)
     }
 }
 
@@ -59,12 +46,12 @@ fn highest_below(set: u16, k: u8) -> u8
 pub fn highest(set: u16) -> u8
     ensures { result ≡ top set }
 {
-    highest_below(set, 16)
+    if set == 0 { 0 } else { set.ilog2() as u8 }
 }
 
 // How many slots are in the set.
 pub fn size(set: u16) -> u32
     ensures { result ≡ card set }
 {
-    u16::count_ones(set)
+    set.count_ones()
 }
