@@ -1,26 +1,22 @@
 // Who starts in a cycle, and what becomes of the wave (document 01, "One bus cycle": "Wave empty before", "Wave not empty before", and the
 // attention cycle). The definitions stand in crate `cycle`, specs/Arbitration.antt.
-ghost use Rattle.std.specs.Prelude.{◌≡◌, ◌<◌};
-ghost use Rattle.cycle.specs.declared.Owner.TheVariants.{Slot};
+ghost use Rattle.std.specs.Prelude.{◌≡◌, ◌<◌, Some};
 ghost use Rattle.cycle.specs.Arbitration.{attends, settled_at, formed, parked, forming, waits, stays, leaves, starting, serving, arbitration_of};
 
-use contest::{Winner, contest};
-use cycle::{Arbitration, Bus, Owner, Transfer};
+use contest::contest;
+use cycle::{Arbitration, Bus, Sets, Transfer};
 use slots::{member, without};
 
 // A starter that no longer wants the bus, or has words 0, makes an attention cycle.
-pub(crate) fn makes_attention(slot: u8, wants: u16, words: [u8; 16]) -> bool
-    ensures { result ≡ attends slot wants words }
+#[tactic(auto, unfolding(cycle::specs::Arbitration::attends))]
+pub(crate) fn makes_attention(slot: u8, sets: Sets) -> bool
+    ensures { result ≡ attends slot sets.wants sets.words }
 {
-    if member(wants, slot) {
-        let at = slot as usize;
-        if at < 16 { words[at] == 0 } else { true }
-    } else {
-        true
-    }
+    !member(sets.wants, slot) || sets.words[slot as usize] == 0
 }
 
 // The settling count n of a wave with members, else 0.
+#[tactic(auto, using(std::proofs::lemmas::Bool::Decides::nat_tests))]
 fn settle(n: u8, wave: u16) -> u8
     ensures { result ≡ settled_at n wave }
 {
@@ -28,33 +24,34 @@ fn settle(n: u8, wave: u16) -> u8
 }
 
 // All that want form the wave. One formed now gets settling count 1.
+#[tactic(auto, unfolding(cycle::specs::Arbitration::formed))]
 fn all_form(b: Bus, wants: u16) -> Arbitration
     ensures { result ≡ formed b wants }
 {
-    let o = b.owner;
     Arbitration {
         wave: wants,
         settling: settle(1, wants),
         turn: 0,
-        owner: o,
-        starter: Owner::Nobody,
+        owner: b.owner,
+        starter: None,
     }
 }
 
 // The slot starts and becomes owner, its turn over, and the rest are the wave. Where members remain, the settling count is n.
 fn start_out(slot: u8, n: u8, rest: u16) -> Arbitration
-    ensures { result ≡ record { wave = rest; settling = settled_at n rest; turn = 0; owner = Slot slot; starter = Slot slot } }
+    ensures { result ≡ record { wave = rest; settling = settled_at n rest; turn = 0; owner = Some slot; starter = Some slot } }
 {
     Arbitration {
         wave: rest,
         settling: settle(n, rest),
         turn: 0,
-        owner: Owner::Slot(slot),
-        starter: Owner::Slot(slot),
+        owner: Some(slot),
+        starter: Some(slot),
     }
 }
 
 // The owner is parked and starts now, and the others that want form the wave.
+#[tactic(auto, unfolding(cycle::specs::Arbitration::parked))]
 fn park(slot: u8, wants: u16) -> Arbitration
     ensures { result ≡ parked slot wants }
 {
@@ -63,23 +60,13 @@ fn park(slot: u8, wants: u16) -> Arbitration
 }
 
 // Wave empty before.
+#[tactic(auto, unfolding(cycle::specs::Arbitration::forming))]
 fn form(b: Bus, wants: u16) -> Arbitration
     ensures { result ≡ forming b.transfer b.owner b wants }
 {
-    let t = b.transfer;
-    let o = b.owner;
-    match t {
-        Transfer::Idle => match o {
-            Owner::Slot(slot) => {
-                if member(wants, slot) {
-                    park(slot, wants)
-                } else {
-                    all_form(b, wants)
-                }
-            }
-            Owner::Nobody => all_form(b, wants),
-        },
-        Transfer::Open { owed: _, age: _ } => all_form(b, wants),
+    match (b.transfer, b.owner) {
+        (Transfer::Idle, Some(slot)) if member(wants, slot) => park(slot, wants),
+        _ => all_form(b, wants),
     }
 }
 
@@ -87,13 +74,12 @@ fn form(b: Bus, wants: u16) -> Arbitration
 fn wait(b: Bus, n: u8) -> Arbitration
     ensures { result ≡ waits b n }
 {
-    let o = b.owner;
     Arbitration {
         wave: b.wave,
         settling: n,
         turn: b.turn,
-        owner: o,
-        starter: Owner::Nobody,
+        owner: b.owner,
+        starter: None,
     }
 }
 
@@ -106,12 +92,13 @@ fn stay(b: Bus, h: u8) -> Arbitration
         wave: b.wave,
         settling: 2,
         turn: b.turn + 1,
-        owner: Owner::Slot(h),
-        starter: Owner::Slot(h),
+        owner: Some(h),
+        starter: Some(h),
     }
 }
 
 // The starter leaves now and the turn is 0.
+#[tactic(auto, unfolding(cycle::specs::Arbitration::leaves))]
 fn leave(b: Bus, h: u8) -> Arbitration
     ensures { result ≡ leaves b h }
 {
@@ -120,12 +107,13 @@ fn leave(b: Bus, h: u8) -> Arbitration
 }
 
 // The highest member starts: it stays only if it holds, makes no attention cycle and has STARTs left in its turn.
-fn start(b: Bus, h: u8, wants: u16, holds: u16, words: [u8; 16]) -> Arbitration
+#[tactic(auto, unfolding(cycle::specs::Arbitration::starting))]
+fn start(b: Bus, h: u8, sets: Sets) -> Arbitration
     requires { b.turn < b.limit }
-    ensures { result ≡ starting b h wants holds words }
+    ensures { result ≡ starting b h sets.wants sets.holds sets.words }
 {
     let more = b.turn + 1 < b.limit;
-    if member(holds, h) & !makes_attention(h, wants, words) & more {
+    if member(sets.holds, h) & !makes_attention(h, sets) & more {
         stay(b, h)
     } else {
         leave(b, h)
@@ -133,30 +121,32 @@ fn start(b: Bus, h: u8, wants: u16, holds: u16, words: [u8; 16]) -> Arbitration
 }
 
 // Wave not empty before, and settled: the contest among its members is decided once the bus is idle.
-fn serve(b: Bus, wants: u16, holds: u16, words: [u8; 16]) -> Arbitration
+#[tactic(auto, using(crate::proofs::Laws::serve_start, crate::proofs::Laws::serve_somebody), unfolding(cycle::specs::Arbitration::serving))]
+fn serve(b: Bus, sets: Sets) -> Arbitration
     requires { (b.turn < b.limit) × (b.wave ≡ 0 → ⊥) }
-    ensures { result ≡ serving b.transfer b wants holds words }
+    ensures { result ≡ serving b.transfer b sets.wants sets.holds sets.words }
 {
     let before = b.transfer;
     match before {
         Transfer::Idle => match contest(b.wave) {
-            Winner::Slot(h) => start(b, h, wants, holds, words),
-            Winner::Nobody => wait(b, 0),
+            Some(h) => start(b, h, sets),
+            None => wait(b, 0),
         },
-        Transfer::Open { owed: _, age: _ } => wait(b, 0),
+        Transfer::Open { .. } => wait(b, 0),
     }
 }
 
 // Wave empty before; or a settling count above 0 falls by 1; or the wave is settled.
-pub(crate) fn arbitrate(b: Bus, wants: u16, holds: u16, words: [u8; 16]) -> Arbitration
+#[tactic(auto, unfolding(cycle::specs::Arbitration::arbitration_of))]
+pub(crate) fn arbitrate(b: Bus, sets: Sets) -> Arbitration
     requires { b.turn < b.limit }
-    ensures { result ≡ arbitration_of b.transfer b wants holds words }
+    ensures { result ≡ arbitration_of b.transfer b sets.wants sets.holds sets.words }
 {
     if b.wave == 0 {
-        form(b, wants)
+        form(b, sets.wants)
     } else if 0 < b.settling {
         wait(b, b.settling - 1)
     } else {
-        serve(b, wants, holds, words)
+        serve(b, sets)
     }
 }

@@ -3,70 +3,62 @@
 ghost use Rattle.std.specs.Prelude.{◌≡◌};
 ghost use Rattle.cycle.specs.Bounds.{lawful_counts, lawful_owner, lawful_transfer, lawful_rest, in_bounds, lawful_word, lawful_words};
 
-use cycle::{Bus, Owner, Transfer};
+use cycle::{Bus, Transfer};
 
 // An owner is a slot 0 to 15.
-fn is_owner(o: Owner) -> bool
-    ensures { result ≡ lawful_owner o }
+#[tactic(auto, unfolding(cycle::specs::Bounds::lawful_owner))]
+fn is_owner(owner: Option<u8>) -> bool
+    ensures { result ≡ lawful_owner owner }
 {
-    match o {
-        Owner::Nobody => true,
-        Owner::Slot(slot) => slot < Bus::SLOTS,
-    }
+    owner.is_none_or(|slot| slot < Bus::SLOTS)
 }
 
 // Words owed are 1 to 16.
-fn is_transfer(t: Transfer) -> bool
-    ensures { result ≡ lawful_transfer t }
+#[tactic(auto, unfolding(cycle::specs::Bounds::lawful_transfer))]
+fn is_transfer(transfer: Transfer) -> bool
+    ensures { result ≡ lawful_transfer transfer }
 {
-    match t {
+    match transfer {
         Transfer::Idle => true,
-        Transfer::Open { owed, age: _ } => (1 <= owed) & (owed <= 16),
+        Transfer::Open { owed, .. } => (1 <= owed) & (owed <= Bus::WORDS_MOST),
     }
 }
 
 // Hold limit 1 to 16, settling count 0 to 2, turn below the limit.
-fn are_counts(limit: u8, settling: u8, turn: u8) -> bool
-    ensures { result ≡ lawful_counts limit settling turn }
+#[tactic(auto, unfolding(cycle::specs::Bounds::lawful_counts))]
+fn are_counts(b: Bus) -> bool
+    ensures { result ≡ lawful_counts b.limit b.settling b.turn }
 {
-    (1 <= limit) & (limit <= Bus::LIMIT_MOST) & (settling <= 2) & (turn < limit)
+    (1 <= b.limit) & (b.limit <= Bus::LIMIT_MOST) & (b.settling <= 2) & (b.turn < b.limit)
 }
 
 // With an empty wave the settling count and the turn are 0.
-fn is_rest(wave: u16, settling: u8, turn: u8) -> bool
-    ensures { result ≡ lawful_rest wave settling turn }
+#[tactic(auto, unfolding(cycle::specs::Bounds::lawful_rest))]
+fn is_rest(b: Bus) -> bool
+    ensures { result ≡ lawful_rest b.wave b.settling b.turn }
 {
-    !(wave == 0) | ((settling == 0) & (turn == 0))
+    (b.wave != 0) | ((b.settling == 0) & (b.turn == 0))
 }
 
 // Refusal 5: a state outside its bounds.
+#[tactic(auto, unfolding(cycle::specs::Bounds::in_bounds))]
 pub(crate) fn is_bounded(b: Bus) -> bool
     ensures { result ≡ in_bounds b }
 {
-    let o = b.owner;
-    let t = b.transfer;
-    are_counts(b.limit, b.settling, b.turn)
-        & is_owner(o)
-        & is_transfer(t)
-        & is_rest(b.wave, b.settling, b.turn)
+    are_counts(b) & is_owner(b.owner) & is_transfer(b.transfer) & is_rest(b)
 }
 
 // Refusal 3: a node's words are 0, 1, 2, 4, 8 or 16.
+#[tactic(auto, unfolding(cycle::specs::Bounds::lawful_word))]
 fn is_word(n: u8) -> bool
     ensures { result ≡ lawful_word n }
 {
-    (n == 0) | (n == 1) | (n == 2) | (n == 4) | (n == 8) | (n == 16)
+    matches!(n, 0 | 1 | 2 | 4 | 8 | 16)
 }
 
 // Of all sixteen nodes, whether they want or not.
 pub(crate) fn are_words(words: [u8; 16]) -> bool
     ensures { result ≡ lawful_words words }
 {
-    for i in 0..16 {
-        let n = words[i];
-        if !is_word(n) {
-            return false;
-        }
-    }
-    true
+    words.iter().all(|&n| is_word(n))
 }
