@@ -113,7 +113,7 @@ fn start(b: Bus, h: u8, sets: Sets) -> Arbitration
     ensures { result ≡ starting b h sets.wants sets.holds sets.words }
 {
     let more = b.turn + 1 < b.limit;
-    if member(sets.holds, h) & !makes_attention(h, sets) & more {
+    if member(sets.holds, h) && !makes_attention(h, sets) && more {
         stay(b, h)
     } else {
         leave(b, h)

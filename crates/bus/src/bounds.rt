@@ -20,7 +20,7 @@ fn is_transfer(transfer: Transfer) -> bool
 {
     match transfer {
         Transfer::Idle => true,
-        Transfer::Open { owed, .. } => (1 <= owed) & (owed <= Bus::WORDS_MOST),
+        Transfer::Open { owed, .. } => 1 <= owed && owed <= Bus::WORDS_MOST,
     }
 }
 
@@ -29,7 +29,7 @@ fn is_transfer(transfer: Transfer) -> bool
 fn are_counts(b: Bus) -> bool
     ensures { result ≡ lawful_counts b.limit b.settling b.turn }
 {
-    (1 <= b.limit) & (b.limit <= Bus::LIMIT_MOST) & (b.settling <= 2) & (b.turn < b.limit)
+    1 <= b.limit && b.limit <= Bus::LIMIT_MOST && b.settling <= 2 && b.turn < b.limit
 }
 
 // With an empty wave the settling count and the turn are 0.
@@ -37,7 +37,7 @@ fn are_counts(b: Bus) -> bool
 fn is_rest(b: Bus) -> bool
     ensures { result ≡ lawful_rest b.wave b.settling b.turn }
 {
-    (b.wave != 0) | ((b.settling == 0) & (b.turn == 0))
+    b.wave != 0 || (b.settling == 0 && b.turn == 0)
 }
 
 // Refusal 5: a state outside its bounds.
@@ -45,7 +45,7 @@ fn is_rest(b: Bus) -> bool
 pub(crate) fn is_bounded(b: Bus) -> bool
     ensures { result ≡ in_bounds b }
 {
-    are_counts(b) & is_owner(b.owner) & is_transfer(b.transfer) & is_rest(b)
+    are_counts(b) && is_owner(b.owner) && is_transfer(b.transfer) && is_rest(b)
 }
 
 // Refusal 3: a node's words are 0, 1, 2, 4, 8 or 16.
