@@ -1,15 +1,11 @@
 -- `rowlines::put_standing` meets its contract: each piece put behind the one before. Assumes nothing.
-use mathlib.Core.List.{◌++◌}
-use Rattle.text.specs.Words.{word}
-use Rattle.printed.specs.Lines.{named}
-use Rattle.printed.proofs.AddingLaws.{adds_put, adds_then, adds_is}
-use Rattle.figures.specs.Times.{nanoseconds_of}
+use Rattle.text.proofs.PageLaws.{grown_then}
 use Rattle.rowlines.specs.Rows.{standing}
 use Rattle.rowlines.proofs.put_standing.Goals as goal
 
 pub returns : goal.returns
 unfolding standing
-returns c = let a = c.args in
-    let two = adds_then (adds_is (named "record " a.index) (adds_put c.put_named-record.ensures)) (adds_is (named " cycle " a.cycle) (adds_put c.put_named-stands.ensures)) in
-    let three = adds_then two (adds_is (named " gap " a.gap) (adds_put c.put_named-apart.ensures)) in
-    adds_then three (adds_is (word " ns " ++ nanoseconds_of a.cycle) (adds_then (adds_put c.put_word-time.ensures) (adds_put c.put_nanoseconds.ensures)))
+returns g c = let two = rw (c.put_named.ensures, grown_then) at c.put_named-2.ensures in
+    let three = rw (two, grown_then) at c.put_named-3.ensures in
+    let time = rw (c.put.ensures, grown_then) at c.add_nanoseconds.ensures in
+    rw (three, grown_then) at time
