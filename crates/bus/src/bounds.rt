@@ -29,7 +29,7 @@ fn is_transfer(transfer: Transfer) -> bool
 fn are_counts(b: Bus) -> bool
     ensures { result ≡ lawful_counts b.limit b.settling b.turn }
 {
-    1 <= b.limit && b.limit <= Bus::LIMIT_MOST && b.settling <= 2 && b.turn < b.limit
+    Bus::is_limit(b.limit) && b.settling <= 2 && b.turn < b.limit
 }
 
 // With an empty wave the settling count and the turn are 0.

@@ -3,6 +3,7 @@
 #![tactic(auto)]
 
 ghost use Rattle.std.specs.Prelude.{◌≡◌};
+ghost use Rattle.basics.specs.Numbers.{lawful_limit};
 ghost use Rattle.cycle.specs.Bounds.{fresh_of, fresh_answer};
 
 use basics::Refusal;
@@ -106,12 +107,19 @@ impl Bus {
     // The words of the largest block (001, table 2.3).
     pub const WORDS_MOST: u8 = 16;
 
+    // A lawful hold limit is 1 to 16.
+    pub fn is_limit(limit: u8) -> bool
+        ensures { result ≡ lawful_limit limit }
+    {
+        1 <= limit && limit <= Bus::LIMIT_MOST
+    }
+
     // Empty, idle and without an owner.
     #[tactic(auto, unfolding(crate::specs::Bounds::fresh_of))]
     pub fn fresh(limit: u8) -> Result<Bus, Refusal>
         ensures { fresh_answer result ≡ fresh_of limit }
     {
-        if (1 <= limit) & (limit <= Bus::LIMIT_MOST) {
+        if Bus::is_limit(limit) {
             Ok(Bus {
                 wave: 0,
                 settling: 0,

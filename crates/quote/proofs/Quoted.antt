@@ -1,7 +1,7 @@
 -- An accepted answer is the theorem's own bound, and no smaller number would do, since a run reaches it. Assumes nothing.
 use Prim.Native.Nat.{ℕ, ◌<◌, ◌≤◌}
 use mathlib.Core.Bool.{Bool, true, false, cond}
-use mathlib.Core.Path.{◌≡◌, refl, sym, ap, subst, ◌∙◌}
+use mathlib.Core.Path.{◌≡◌, refl, sym, ap, subst}
 use native.Mathlib.Omega.{arith}
 use native.Mathlib.Decide.{dec_lt}
 use lib.Dec.{ltb}
@@ -13,8 +13,8 @@ use Rattle.cycle.proofs.Demand3.{demand3}
 use Rattle.reached.specs.Reached.{Waits}
 use Rattle.reached.proofs.Reached.{sees, waits}
 use Rattle.quote.specs.declared.Worst.{Worst}
-use Rattle.quote.specs.declared.Quote.{Quote}
-use Rattle.quote.specs.declared.Quote.TheVariants.{Is}
+use Rattle.std.specs.Prelude.{Result, Ok, Err, IfOk}
+use Rattle.basics.specs.declared.refusal.Refusal.{Refusal}
 use Rattle.quote.specs.Quotes.{worst_of, no_worst, quote_of, quote_answer}
 use Rattle.quote.specs.Quoted.{StartsWithin, Quoted}
 use Rattle.quote.proofs.Laws.{limit_between}
@@ -60,5 +60,7 @@ quoted slot limit w e =
     })
 
 -- the contract of `worst_wait`
-pub promised : (slot limit : ℕ) (r : Quote) → quote_answer r ≡ quote_of slot limit → (quote_answer r ≡ quote_of slot limit) × ((w : Worst) → r ≡ Is w → Quoted slot limit w)
-promised slot limit r e = (e, λ w is. quoted slot limit w (sym e ∙ ap quote_answer is))
+pub promised : (slot limit : ℕ) (r : Result Worst Refusal) → quote_answer r ≡ quote_of slot limit
+    → (quote_answer r ≡ quote_of slot limit) × IfOk r (Quoted slot limit)
+promised slot limit (Ok w) e = (e, quoted slot limit w (sym e))
+promised slot limit (Err r) e = (e, tt)
