@@ -66,7 +66,10 @@ pub one_result : {A : Type 0} (back : A) (r s : Result A Refusal) → answered b
 one_result back r s e = sym (result_again back r) ∙ ap result_of e ∙ result_again back s
 
 -- of a call that gives no value its number says all
-pub numbered_again : (r : Result (Unit {0}) Refusal) → cond (eqb (call_number r) 0) (Ok tt) (Err (refusal_by (call_number r))) ≡ r
+abbrev pub number_result : ℕ → Result (Unit {0}) Refusal
+number_result n = cond (eqb n 0) (Ok tt) (Err (refusal_by n))
+
+pub numbered_again : (r : Result (Unit {0}) Refusal) → number_result (call_number r) ≡ r
 numbered_again (Ok tt) = refl
 numbered_again (Err Length) = refl
 numbered_again (Err Place) = refl
@@ -79,5 +82,4 @@ numbered_again (Err TooMany) = refl
 numbered_again (Err Marks) = refl
 
 pub one_call : (r s : Result (Unit {0}) Refusal) → call_number r ≡ call_number s → r ≡ s
-one_call r s e =
-    sym (numbered_again r) ∙ ap (λ (n : ℕ). cond (eqb n 0) (Ok tt) (Err (refusal_by n))) e ∙ numbered_again s
+one_call r s e = sym (numbered_again r) ∙ ap number_result e ∙ numbered_again s

@@ -8,18 +8,16 @@ use borrow.Author.Tests.{eq-eqb, ne_eqb, ltb-true, ltb-false}
 use lib.Dec.{eqb, ltb}
 use lib.ListN.{get_or, set}
 use lib.Seq.{set-get_or}
-use Rattle.basics.specs.Answers.{accepted, refused}
+use Rattle.std.specs.Prelude.{Result, Ok, Err}
+use Rattle.basics.specs.Answers.{accepted, refused, refusal_number, call_number}
+use Rattle.basics.specs.declared.refusal.Refusal.{Refusal}
+use Rattle.basics.proofs.Refusals.{some_number}
 use Rattle.basics.proofs.Bools.{cond-true, cond-false, by-test, push}
 use Rattle.cache.specs.States.{invalid, unowned, owned_shared, valid, private, owns}
 use Rattle.cache.specs.Block.{Block, owner_below, owner, supplied, guarded, all_sound, coherent}
 use Rattle.cache.specs.Operations.{value_read, block_fetched, block_read, copy_left, block_written, block_evicted}
 use Rattle.cache.specs.Tables.{Tables, tables, entries, block_at, block_of, placed, with_block}
-use Rattle.cache.specs.Answers.{refusal_number, number_of}
 use Rattle.cache.specs.Calls.{refusal, after, read_of, after_read, after_write, after_evict}
-use Rattle.cache.specs.declared.Refusal.{Refusal}
-use Rattle.cache.specs.declared.Change.{Change}
-use Rattle.cache.specs.declared.Change.TheVariants.{Done, Refused}
-use Rattle.cache.proofs.Answers.{refusal_positive}
 use Rattle.cache.proofs.Placed.{placed_same, placed-own, placed_set, placed_one}
 use Rattle.cache.proofs.Coherence.{coherent-says, owns-owner}
 use Rattle.cache.proofs.Refusals.{Accepted, accepted-says, after-accepted, after-refused}
@@ -76,24 +74,27 @@ module _ (s c : List ℕ) (base slot word : ℕ) where
       )
 
 -- ---- the calls
-module _ (t : Tables) (block slot : ℕ) (r : Change) (is : number_of r ≡ refusal t block slot) where
-  pub call_done : r ≡ Done → refusal t block slot ≡ 0
-  call_done e = sym is ∙ ap number_of e
+unnumbered : (why : Refusal) → refusal_number why ≡ 0 → ⊥
+unnumbered why e = omega (arith, some_number why)
 
-  pub call_accepted : r ≡ Done → Accepted t block slot
+module _ (t : Tables) (block slot : ℕ) (r : Result (Unit {0}) Refusal) (is : call_number r ≡ refusal t block slot) where
+  pub call_done : r ≡ Ok tt → refusal t block slot ≡ 0
+  call_done e = sym is ∙ ap call_number e
+
+  pub call_accepted : r ≡ Ok tt → Accepted t block slot
   call_accepted e = accepted-says t block slot (call_done e)
 
-  pub call_refused : (why : Refusal) → r ≡ Refused why → refusal_number why ≡ refusal t block slot
-  call_refused why e = ap number_of (sym e) ∙ is
+  pub call_refused : (why : Refusal) → r ≡ Err why → refusal_number why ≡ refusal t block slot
+  call_refused why e = ap call_number (sym e) ∙ is
 
-  pub call_unchanged : (operation : Block → Block) (why : Refusal) → r ≡ Refused why → t ≡ after t block slot operation
-  call_unchanged operation why e = sym (after-refused t block slot operation (λ z. refusal_positive why (call_refused why e ∙ z)))
+  pub call_unchanged : (operation : Block → Block) (why : Refusal) → r ≡ Err why → t ≡ after t block slot operation
+  call_unchanged operation why e = sym (after-refused t block slot operation (λ z. unnumbered why (call_refused why e ∙ z)))
 
-  pub read-refused : (why : Refusal) → r ≡ Refused why → refused (refusal_number why) 0 ≡ read_of t block slot
+  pub read-refused : (why : Refusal) → r ≡ Err why → refused (refusal_number why) 0 ≡ read_of t block slot
   unfolding read_of
   read-refused why e =
       ap (λ (n : ℕ). refused n 0) (call_refused why e)
-      ∙ sym (cond-false (accepted (value_read (block_of t block) slot)) (refused (refusal t block slot) 0) (ne_eqb (refusal t block slot) 0 (λ z. refusal_positive why (call_refused why e ∙ z))))
+      ∙ sym (cond-false (accepted (value_read (block_of t block) slot)) (refused (refusal t block slot) 0) (ne_eqb (refusal t block slot) 0 (λ z. unnumbered why (call_refused why e ∙ z))))
 
 -- tables given list by list
 pub with_block_lem : (s c m : List ℕ) (block : ℕ) (b : Block) (s' c' m' : List ℕ) → s' ≡ placed s (16 * block) b.state 16 → c' ≡ placed c (16 * block) b.copy 16 → m' ≡ set m block b.word → tables s' c' m' ≡ with_block (tables s c m) block b
@@ -103,7 +104,7 @@ with_block_lem s c m block b s' c' m' es ec em =
     ∙ ap (λ (x : List ℕ). tables (placed s (16 * block) b.state 16) x m') ec
     ∙ ap (λ (x : List ℕ). tables (placed s (16 * block) b.state 16) (placed c (16 * block) b.copy 16) x) em
 
-module _ (s c m : List ℕ) (block slot : ℕ) (r : Change) (is : number_of r ≡ refusal (tables s c m) block slot) (done : r ≡ Done) where
+module _ (s c m : List ℕ) (block slot : ℕ) (r : Result (Unit {0}) Refusal) (is : call_number r ≡ refusal (tables s c m) block slot) (done : r ≡ Ok tt) where
   abbrev own : Block
   own = block_of (tables s c m) block
 

@@ -6,10 +6,11 @@ ghost use Rattle.cache.specs.States.{owned_shared, legal, valid, private, owns};
 ghost use Rattle.cache.specs.Block.{owner_below, sound, all_sound, coherent};
 ghost use Rattle.cache.specs.Operations.{value_read, copy_left, block_read, block_written};
 ghost use Rattle.cache.specs.Tables.{tables, entries, block_at, placed};
-ghost use Rattle.cache.specs.Answers.{answer_of, number_of};
+ghost use Rattle.basics.specs.Answers.{call_number};
+ghost use Rattle.cache.specs.Answers.{answer_of};
 ghost use Rattle.cache.specs.Calls.{fit, named, refusal, read_of, after_read, after_write, after_evict};
 
-use basics::pick;
+use basics::{Refusal, pick};
 
 // The states. Only these lines, and `is_legal` below by the last of them, spell a state's number.
 pub const INVALID: u8 = 0;
@@ -19,31 +20,6 @@ pub const UNOWNED: u8 = 1;
 pub const OWNED_SHARED: u8 = 2;
 
 pub const OWNED_PRIVATE: u8 = 3;
-
-// Why a call is refused, with document 01's number.
-#[derive(Clone, Copy)]
-pub enum Refusal {
-    // 1: memory isn't 1 to 64 words, or the other tables aren't 16 times as long
-    Sizes,
-    // 2: slot over 15, or block not in the table
-    Place,
-    // 7: the named block isn't coherent
-    Incoherent,
-}
-
-// What a read answers.
-#[derive(Clone, Copy)]
-pub enum Reading {
-    Value(u32),
-    Refused(Refusal),
-}
-
-// What a write or an evict answers.
-#[derive(Clone, Copy)]
-pub enum Change {
-    Done,
-    Refused(Refusal),
-}
 
 // "No state is over 3."
 fn is_legal(state: u8) -> bool
@@ -71,17 +47,15 @@ fn is_owner(state: u8) -> bool
 }
 
 // The slot that owns the block whose entries start at base, 16 where none does.
+// Stays: 16 and no Option, since the slot of an Option would need its bound beside it in each contract that takes an owner. And `base` with its bound
+// beside whole tables: the calls' contracts speak of whole tables (`after_read`), and sixteen entries lent would have to be put back into them in each proof.
 fn owner_of(states: &[u8], base: usize) -> u8
     requires { base + 16 ≤ length states.now }
     ensures { result ≡ owner_below (entries states.now base) 16 }
 {
     let mut owner: u8 = 16;
-    let mut slot: u8 = 0;
-    while slot < 16 {
-        let at = base + slot as usize;
-        let state = states[at];
-        owner = pick(is_owner(state), slot, owner);
-        slot += 1;
+    for slot in 0..16 {
+        owner = pick(is_owner(states[base + slot as usize]), slot, owner);
     }
     owner
 }
@@ -92,8 +66,7 @@ fn supply(copies: &[u32], base: usize, owner: u8, word: u32) -> u32
     ensures { result ≡ cond (ltb owner 16) (entries copies.now base owner) word }
 {
     if owner < 16 {
-        let at = base + owner as usize;
-        copies[at]
+        copies[base + owner as usize]
     } else {
         word
     }
@@ -104,13 +77,7 @@ fn is_guarded(states: &[u8], base: usize, owner: u8) -> bool
     requires { base + 16 ≤ length states.now }
     ensures { result ≡ (ltb owner 16 && private (entries states.now base owner)) }
 {
-    if owner < 16 {
-        let at = base + owner as usize;
-        let state = states[at];
-        is_private(state)
-    } else {
-        false
-    }
+    owner < 16 && is_private(states[base + owner as usize])
 }
 
 // One slot of a coherent block, which may own only as the owner found (itself), and be valid only with the block's value and, where a
@@ -128,13 +95,9 @@ fn all_sound(states: &[u8], copies: &[u32], base: usize, owner: u8, held: bool, 
     ensures { result ≡ all_sound (entries states.now base) (entries copies.now base) owner held value 16 }
 {
     let mut all = true;
-    let mut k: u8 = 0;
-    while k < 16 {
+    for k in 0..16 {
         let at = base + k as usize;
-        let state = states[at];
-        let copy = copies[at];
-        all = all & is_sound(state, copy, k == owner, held, value);
-        k += 1;
+        all &= is_sound(states[at], copies[at], k == owner, held, value);
     }
     all
 }
@@ -154,11 +117,7 @@ fn is_coherent(states: &[u8], copies: &[u32], base: usize, word: u32) -> bool
 fn is_fit(states: usize, copies: usize, words: usize) -> bool
     ensures { result ≡ fit states copies words }
 {
-    if words <= 64 {
-        (1 <= words) & (states == 16 * words) & (copies == 16 * words)
-    } else {
-        false
-    }
+    words <= 64 && (1 <= words) & (states == 16 * words) & (copies == 16 * words)
 }
 
 fn is_named(block: usize, slot: u8, words: usize) -> bool
@@ -168,22 +127,25 @@ fn is_named(block: usize, slot: u8, words: usize) -> bool
 }
 
 // What a call would be refused for: 1, 2, 7, in this order.
-fn check(states: &[u8], copies: &[u32], memory: &[u32], block: usize, slot: u8) -> Change
-    ensures { number_of result ≡ refusal (tables states.now copies.now memory.now) block slot }
+fn check(
+    states: &[u8],
+    copies: &[u32],
+    memory: &[u32],
+    block: usize,
+    slot: u8,
+) -> Result<(), Refusal>
+    ensures { call_number result ≡ refusal (tables states.now copies.now memory.now) block slot }
 {
     if !is_fit(states.len(), copies.len(), memory.len()) {
-        return Change::Refused(Refusal::Sizes);
+        return Err(Refusal::Length);
     }
     if !is_named(block, slot, memory.len()) {
-        return Change::Refused(Refusal::Place);
+        return Err(Refusal::Place);
     }
-    let word = memory[block];
-    let base = 16 * block;
-    if is_coherent(states, copies, base, word) {
-        Change::Done
-    } else {
-        Change::Refused(Refusal::Incoherent)
+    if !is_coherent(states, copies, 16 * block, memory[block]) {
+        return Err(Refusal::Incoherent);
     }
+    Ok(())
 }
 
 // The owner becomes owned shared.
@@ -192,8 +154,7 @@ fn share(states: &mut [u8], base: usize, owner: u8)
     ensures { states.new ≡ cond (ltb owner 16) (set states.old (base + owner) owned_shared) states.old }
 {
     if owner < 16 {
-        let at = base + owner as usize;
-        states[at] = OWNED_SHARED;
+        states[base + owner as usize] = OWNED_SHARED;
     }
 }
 
@@ -205,8 +166,7 @@ fn read_block(states: &mut [u8], copies: &mut [u32], base: usize, slot: u8, word
     ensures copies { copies.new ≡ placed copies.old base (block_read (block_at states.old copies.old base word) slot).copy 16 }
 {
     let at = base + slot as usize;
-    let state = states[at];
-    if is_valid(state) {
+    if is_valid(states[at]) {
         return copies[at];
     }
     let owner = owner_of(states, base);
@@ -225,18 +185,12 @@ pub fn read(
     memory: &[u32],
     block: usize,
     slot: u8,
-) -> Reading
+) -> Result<u32, Refusal>
     ensures answer { answer_of result ≡ read_of (tables states.old copies.old memory.now) block slot }
     ensures tables { tables states.new copies.new memory.now ≡ after_read (tables states.old copies.old memory.now) block slot }
 {
-    match check(states, copies, memory, block, slot) {
-        Change::Refused(why) => Reading::Refused(why),
-        Change::Done => {
-            let word = memory[block];
-            let base = 16 * block;
-            Reading::Value(read_block(states, copies, base, slot, word))
-        }
-    }
+    check(states, copies, memory, block, slot)?;
+    Ok(read_block(states, copies, 16 * block, slot, memory[block]))
 }
 
 // "A valid slot that becomes invalid gets copy 0; one invalid already keeps its copy."
@@ -246,26 +200,17 @@ fn copy_left(state: u8, copy: u32) -> u32
     if is_valid(state) { 0 } else { copy }
 }
 
-// The writer's slot gets the new value.
-fn copy_written(itself: bool, value: u32, left: u32) -> u32
-    ensures { result ≡ cond itself value left }
-{
-    if itself { value } else { left }
-}
-
 // A write that is not refused, of the block whose entries start at base. It doesn't look at memory's word, so the contract has 0 there.
 fn write_block(states: &mut [u8], copies: &mut [u32], base: usize, slot: u8, value: u32)
     requires { (base + 16 ≤ length states.old) × (base + 16 ≤ length copies.old) }
     ensures states { states.new ≡ placed states.old base (block_written (block_at states.old copies.old base 0) slot value).state 16 }
     ensures copies { copies.new ≡ placed copies.old base (block_written (block_at states.old copies.old base 0) slot value).copy 16 }
 {
-    let mut each: u8 = 0;
-    while each < 16 {
+    for each in 0..16 {
         let at = base + each as usize;
         let left = copy_left(states[at], copies[at]);
         states[at] = pick(each == slot, OWNED_PRIVATE, INVALID);
-        copies[at] = copy_written(each == slot, value, left);
-        each += 1;
+        copies[at] = pick(each == slot, value, left);
     }
 }
 
@@ -277,18 +222,13 @@ pub fn write(
     block: usize,
     slot: u8,
     value: u32,
-) -> Change
-    ensures number { number_of result ≡ refusal (tables states.old copies.old memory.now) block slot }
+) -> Result<(), Refusal>
+    ensures number { call_number result ≡ refusal (tables states.old copies.old memory.now) block slot }
     ensures tables { tables states.new copies.new memory.now ≡ after_write (tables states.old copies.old memory.now) block slot value }
 {
-    match check(states, copies, memory, block, slot) {
-        Change::Refused(why) => Change::Refused(why),
-        Change::Done => {
-            let base = 16 * block;
-            write_block(states, copies, base, slot, value);
-            Change::Done
-        }
-    }
+    check(states, copies, memory, block, slot)?;
+    write_block(states, copies, 16 * block, slot, value);
+    Ok(())
 }
 
 // An owner's copy goes to memory.
@@ -308,20 +248,16 @@ pub fn evict(
     memory: &mut [u32],
     block: usize,
     slot: u8,
-) -> Change
-    ensures number { number_of result ≡ refusal (tables states.old copies.old memory.old) block slot }
+) -> Result<(), Refusal>
+    ensures number { call_number result ≡ refusal (tables states.old copies.old memory.old) block slot }
     ensures tables { tables states.new copies.new memory.new ≡ after_evict (tables states.old copies.old memory.old) block slot }
 {
-    match check(states, copies, memory, block, slot) {
-        Change::Refused(why) => Change::Refused(why),
-        Change::Done => {
-            let at = 16 * block + slot as usize;
-            let state = states[at];
-            let copy = copies[at];
-            write_back(memory, block, state, copy);
-            states[at] = INVALID;
-            copies[at] = copy_left(state, copy);
-            Change::Done
-        }
-    }
+    check(states, copies, memory, block, slot)?;
+    let at = 16 * block + slot as usize;
+    let state = states[at];
+    let copy = copies[at];
+    write_back(memory, block, state, copy);
+    states[at] = INVALID;
+    copies[at] = copy_left(state, copy);
+    Ok(())
 }

@@ -13,4 +13,4 @@ pub loop-k-preserved : goal.loop-k-preserved
 loop-k-preserved c = (omega arith, sound_more _ _ _ _ _ _ _ _ c.loop-k.invariant.1 c.is_sound-all.ensures)
 
 pub returns : goal.returns
-returns c = c.loop-k.invariant.1 ∙ ap (all_sound _ _ _ _ _) (le_antisymm c.loop-k.invariant.0 c.loop-k-test.false)
+returns c = c.loop-k.invariant.1 ∙ ap (all_sound _ _ _ _ _) (le_antisymm c.loop-k.invariant.0 (omega arith))

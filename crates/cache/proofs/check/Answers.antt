@@ -16,14 +16,14 @@ offset_bounds-memory-block c = let f = fit-says _ _ _ (sym c.is_fit.ensures ∙ 
 pub bounds-memory-block : goal.bounds-memory-block
 bounds-memory-block c = (named-says _ _ _ (sym c.is_named.ensures ∙ c.if-not-is_named.false)).1
 
-pub overflow_mul-base : goal.overflow_mul-base
-overflow_mul-base c = let f = fit-says _ _ _ (sym c.is_fit.ensures ∙ c.if-not-is_fit.false) in let n = named-says _ _ _ (sym c.is_named.ensures ∙ c.if-not-is_named.false) in omega arith
+pub overflow_mul-block : goal.overflow_mul-block
+overflow_mul-block c = let f = fit-says _ _ _ (sym c.is_fit.ensures ∙ c.if-not-is_fit.false) in let n = named-says _ _ _ (sym c.is_named.ensures ∙ c.if-not-is_named.false) in omega arith
 
 pub is_coherent-requires : goal.is_coherent-requires
 is_coherent-requires c = let f = fit-says _ _ _ (sym c.is_fit.ensures ∙ c.if-not-is_fit.false) in let n = named-says _ _ _ (sym c.is_named.ensures ∙ c.if-not-is_named.false) in (omega arith, omega arith)
 
-pub returns-then-is_coherent : goal.returns-then-is_coherent
-returns-then-is_coherent c = not-refused _ _ _ (sym c.is_fit.ensures ∙ c.if-not-is_fit.false) (sym c.is_named.ensures ∙ c.if-not-is_named.false) (sym c.is_coherent.ensures ∙ c.if-is_coherent.true)
+pub returns-then-not-is_coherent : goal.returns-then-not-is_coherent
+returns-then-not-is_coherent c = refused_incoherent _ _ _ (sym c.is_fit.ensures ∙ c.if-not-is_fit.false) (sym c.is_named.ensures ∙ c.if-not-is_named.false) (sym c.is_coherent.ensures ∙ c.if-not-is_coherent.true)
 
-pub returns-else-is_coherent : goal.returns-else-is_coherent
-returns-else-is_coherent c = refused_incoherent _ _ _ (sym c.is_fit.ensures ∙ c.if-not-is_fit.false) (sym c.is_named.ensures ∙ c.if-not-is_named.false) (sym c.is_coherent.ensures ∙ c.if-is_coherent.false)
+pub returns : goal.returns
+returns c = not-refused _ _ _ (sym c.is_fit.ensures ∙ c.if-not-is_fit.false) (sym c.is_named.ensures ∙ c.if-not-is_named.false) (sym c.is_coherent.ensures ∙ c.if-not-is_coherent.false)

@@ -13,4 +13,4 @@ pub loop-slot-preserved : goal.loop-slot-preserved
 loop-slot-preserved c = (omega arith, owner-more _ _ _ _ _ c.loop-slot.invariant.1 c.is_owner.ensures c.pick-owner.ensures)
 
 pub returns : goal.returns
-returns c = c.loop-slot.invariant.1 ∙ ap (owner_below _) (le_antisymm c.loop-slot.invariant.0 c.loop-slot-test.false)
+returns c = c.loop-slot.invariant.1 ∙ ap (owner_below _) (le_antisymm c.loop-slot.invariant.0 (omega arith))

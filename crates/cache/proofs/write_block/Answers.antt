@@ -25,7 +25,7 @@ pub bounds-copies-at-in-loop-each : goal.bounds-copies-at-in-loop-each
 bounds-copies-at-in-loop-each c = omega (arith, written-copies _ _ _ _ _ _ _ _ c.loop-each.invariant)
 
 pub loop-each-preserved : goal.loop-each-preserved
-loop-each-preserved c = written-more _ _ _ _ _ _ _ _ _ _ _ c.loop-each.invariant (omega arith) c.copy_left-left.ensures c.pick.ensures c.copy_written.ensures
+loop-each-preserved c = written-more _ _ _ _ _ _ _ _ _ _ _ c.loop-each.invariant (omega arith) c.copy_left-left.ensures c.pick.ensures c.pick-in-loop-each.ensures
 
 pub shape_of-states : goal.shape_of-states
 shape_of-states c = written-states _ _ _ _ _ _ _ _ c.loop-each.invariant
@@ -34,4 +34,4 @@ pub shape_of-copies : goal.shape_of-copies
 shape_of-copies c = written-copies _ _ _ _ _ _ _ _ c.loop-each.invariant
 
 pub returns : goal.returns
-returns c = let r = written_all _ _ _ _ _ _ _ _ c.loop-each.invariant c.loop-each-test.false in record { states = r.0; copies = r.1 }
+returns c = let r = written_all _ _ _ _ _ _ _ _ c.loop-each.invariant (omega arith) in record { states = r.0; copies = r.1 }
