@@ -2,21 +2,19 @@
 use Prim.Native.Nat.{ℕ, suc, ◌+◌, ◌*◌, ◌≤◌, ◌<◌}
 use mathlib.Core.Path.{◌≡◌, refl, sym, ap, ◌∙◌}
 use mathlib.Core.Bool.{Bool, true, false, not, ◌||◌}
-use mathlib.Core.List.{List, [], ◌∷◌, ◌++◌, append_assoc}
+use mathlib.Core.List.{List, [], ◌∷◌, ◌++◌, append_assoc, append-nil}
 use native.Mathlib.Omega.{arith}
 use lib.Dec.{eqb}
 use lib.ListN.{length, take, drop, get_or, length-append, drop_of_length-le}
-use lib.Seq.{drop-cons, take_all}
+use lib.Seq.{drop-cons}
 use Rattle.io.specs.Digits.{last_digits}
 use Rattle.basics.proofs.Bools.{choice, cond-true, cond-false}
 use Rattle.record.specs.declared.Record.{Record}
 use Rattle.record.specs.Packing.{blank}
 use Rattle.text.specs.Decimal.{spelled, decimal_of}
 use Rattle.text.proofs.DecimalLaws.{decimal_length}
-use Rattle.text.specs.declared.Place.{Place}
-use Rattle.text.specs.Places.{front}
-use Rattle.printed.specs.Adding.{Adds}
-use Rattle.printed.proofs.AddingLaws.{adds_page}
+use Rattle.text.specs.Places.{front, put_at}
+use Rattle.text.proofs.PlaceLaws.{put_front}
 use Rattle.figures.proofs.DigitLaws.{digits-length}
 use Rattle.vcdlines.specs.Signals.{Signal, signals, levels_of, levels, first_code}
 use Rattle.vcdlines.specs.Head.{head_text}
@@ -71,12 +69,10 @@ unfolding levels
 levels-length r = levels-many signals r
 
 -- so they fill an array of 81
-pub all-levels : (r : Record) {a : List ℕ} {p : Place} {b : List ℕ} {q : Place} → p ≡ front → length a ≡ 81 → Adds a p b q (levels r) → b ≡ levels r
-all-levels r {a} {p} {b} {q} s l f =
-    let m = adds_page s f (omega (arith, levels-length r)) in
-    let e : length b ≡ 81 = f.kept ∙ l in
-    let n : q.at ≡ 81 = m.size ∙ ap length m.text ∙ levels-length r in
-    sym (take_all q.at b (omega arith)) ∙ m.text
+pub fills : (array text : List ℕ) → length text ≡ length array → put_at array front text ≡ text
+fills array text e =
+    let all : length array ≤ length text = omega arith in
+    put_front array text (omega arith) ∙ ap (λ (rest : List ℕ). text ++ rest) (drop_of_length-le array all) ∙ append-nil text
 
 -- a step's lines, from arrays that hold the levels
 pub step_from : (first : Bool) (last lines : Record) {before after : List ℕ} → before ≡ levels last → after ≡ levels lines → changes_of first first_code (levels last) (levels lines) ≡ changes_of first first_code before after

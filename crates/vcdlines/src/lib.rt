@@ -2,11 +2,11 @@
 // then put into the buffer at once: so a buffer that is too short is not written.
 #![tactic(auto)]
 
-ghost use Rattle.std.specs.Prelude.{◌≡◌, false, ◌++◌, ◌≤◌, length, take, drop};
+ghost use Rattle.std.specs.Prelude.{◌≡◌, false, ◌++◌, length, take, drop};
 ghost use Rattle.io.specs.Digits.{last_digits};
 ghost use Rattle.basics.specs.Lines.{one};
-ghost use Rattle.text.specs.Places.{front, moved_by, put_at};
-ghost use Rattle.printed.specs.Adding.{Adds};
+ghost use Rattle.text.specs.Pages.{grown};
+ghost use Rattle.text.specs.Places.{moved_by, put_at};
 ghost use Rattle.record.specs.Packing.{blank};
 ghost use Rattle.vcdlines.specs.Signals.{signals, levels_of, levels, first_code};
 ghost use Rattle.vcdlines.specs.Dump.{time_line, cycle_behind, change_of, changes_of, step_text, change_text, end_text};
@@ -14,7 +14,7 @@ ghost use Rattle.vcdlines.specs.Head.{head_text};
 
 use figures::Base;
 use record::Record;
-use text::Place;
+use text::{Page, Place};
 
 // Enough for a record's text, and for two steps where cycles are missing before it, with all lines changed and cycles of twenty digits.
 const PAGE: usize = 544;
@@ -26,121 +26,107 @@ const LINES: usize = 81;
 fn behind(cycle: u64) -> u64
     ensures { result ≡ cycle_behind cycle }
 {
-    if cycle < 18446744073709551615 {
-        cycle + 1
-    } else {
-        18446744073709551615
-    }
+    cycle.saturating_add(1)
 }
 
 // `#` and a cycle.
-fn put_time(page: &mut [u8], place: Place, cycle: u64) -> Place
-    ensures { Adds page.old place page.new result (time_line cycle) }
+fn put_time<const N: usize>(page: &mut Page<N>, cycle: u64)
+    ensures { page.new ≡ grown N page.old (time_line cycle) }
 {
-    let number = text::put_named(page, place, b"#", cycle);
-    text::put_word(page, number, b"\n")
+    page.put_named(b"#", cycle);
+    page.put(b"\n");
 }
 
 // The level of a line alone.
-fn put_level(page: &mut [u8], place: Place, active: bool) -> Place
-    ensures { Adds page.old place page.new result (last_digits 2 1 (one active)) }
+fn put_level<const N: usize>(page: &mut Page<N>, active: bool)
+    ensures { page.new ≡ grown N page.old (last_digits 2 1 (one active)) }
 {
-    figures::put_digits(page, place, Base::Binary, 1, basics::one_if(active) as u64)
+    figures::add_digits(page, Base::Binary, 1, basics::one_if(active) as u64);
 }
 
 // The levels of the first five signals.
-fn put_reset_to_ack(page: &mut [u8], place: Place, lines: Record) -> Place
-    ensures { Adds page.old place page.new result (levels_of (take 5 signals) lines) }
+fn put_reset_to_ack<const N: usize>(page: &mut Page<N>, lines: Record)
+    ensures { page.new ≡ grown N page.old (levels_of (take 5 signals) lines) }
 {
-    let reset = put_level(page, place, lines.reset);
-    let rqst = put_level(page, reset, lines.rqst);
-    let arb = figures::put_digits(page, rqst, Base::Binary, 4, lines.arb as u64);
-    let start = put_level(page, arb, lines.start);
-    put_level(page, start, lines.ack)
+    put_level(page, lines.reset);
+    put_level(page, lines.rqst);
+    figures::add_digits(page, Base::Binary, 4, lines.arb as u64);
+    put_level(page, lines.start);
+    put_level(page, lines.ack);
 }
 
 // Of the next five.
-fn put_tm1_to_ad(page: &mut [u8], place: Place, lines: Record) -> Place
-    ensures { Adds page.old place page.new result (levels_of (take 5 (drop 5 signals)) lines) }
+fn put_tm1_to_ad<const N: usize>(page: &mut Page<N>, lines: Record)
+    ensures { page.new ≡ grown N page.old (levels_of (take 5 (drop 5 signals)) lines) }
 {
-    let tm1 = put_level(page, place, lines.tm1);
-    let tm0 = put_level(page, tm1, lines.tm0);
-    let sp = put_level(page, tm0, lines.sp);
-    let spv = put_level(page, sp, lines.spv);
-    figures::put_digits(page, spv, Base::Binary, 32, lines.ad as u64)
+    put_level(page, lines.tm1);
+    put_level(page, lines.tm0);
+    put_level(page, lines.sp);
+    put_level(page, lines.spv);
+    figures::add_digits(page, Base::Binary, 32, lines.ad as u64);
 }
 
 // Of the last five.
-fn put_vtm1_to_vad(page: &mut [u8], place: Place, lines: Record) -> Place
-    ensures { Adds page.old place page.new result (levels_of (drop 10 signals) lines) }
+fn put_vtm1_to_vad<const N: usize>(page: &mut Page<N>, lines: Record)
+    ensures { page.new ≡ grown N page.old (levels_of (drop 10 signals) lines) }
 {
-    let vtm1 = put_level(page, place, lines.vtm1);
-    let vtm0 = put_level(page, vtm1, lines.vtm0);
-    let vack = put_level(page, vtm0, lines.vack);
-    let vsack = put_level(page, vack, lines.vsack);
-    figures::put_digits(page, vsack, Base::Binary, 33, lines.vad)
+    put_level(page, lines.vtm1);
+    put_level(page, lines.vtm0);
+    put_level(page, lines.vack);
+    put_level(page, lines.vsack);
+    figures::add_digits(page, Base::Binary, 33, lines.vad);
 }
 
 // The 81 levels of a record.
 fn levels_of(lines: Record) -> [u8; LINES]
     ensures { result ≡ levels lines }
 {
-    let start = Place::front();
-    let mut all = [0u8; LINES];
-    let five = put_reset_to_ack(&mut all, start, lines);
-    let ten = put_tm1_to_ad(&mut all, five, lines);
-    put_vtm1_to_vad(&mut all, ten, lines);
+    let mut page = Page::<LINES>::new();
+    put_reset_to_ack(&mut page, lines);
+    put_tm1_to_ad(&mut page, lines);
+    put_vtm1_to_vad(&mut page, lines);
+    let mut all = [0; LINES];
+    page.put_into(&mut all, Place::front());
     all
 }
 
 // A line, where its level has changed.
-fn put_if_changed(
-    page: &mut [u8],
-    place: Place,
-    first: bool,
-    code: u8,
-    before: u8,
-    after: u8,
-) -> Place
-    ensures { Adds page.old place page.new result (change_of first code before after) }
+fn put_if_changed<const N: usize>(page: &mut Page<N>, first: bool, code: u8, before: u8, after: u8)
+    ensures { page.new ≡ grown N page.old (change_of first code before after) }
 {
     if first | (before != after) {
-        let line = [after, code, b'\n'];
-        return text::put_word(page, place, &line);
+        page.put(&[after, code, b'\n']);
     }
-    place
 }
 
 // All lines whose levels have changed; the code of line k is 33 + k.
-fn put_changes(page: &mut [u8], place: Place, first: bool, before: &[u8], after: &[u8]) -> Place
-    requires { (length before.now ≡ 81) × (length after.now ≡ 81) }
-    ensures { Adds page.old place page.new result (changes_of first first_code before.now after.now) }
+fn put_changes<const N: usize>(
+    page: &mut Page<N>,
+    first: bool,
+    before: &[u8; LINES],
+    after: &[u8; LINES],
+)
+    ensures { page.new ≡ grown N page.old (changes_of first first_code before.now after.now) }
 {
-    let mut next = place;
-    let mut k = 0;
-    while k < LINES {
-        let code = 33 + k as u8;
-        next = put_if_changed(page, next, first, code, before[k], after[k]);
-        k += 1;
+    for k in 0..LINES {
+        put_if_changed(page, first, 33 + k as u8, before[k], after[k]);
     }
-    next
 }
 
 // A cycle, and the lines that have changed in it.
-fn put_step(
-    page: &mut [u8],
-    place: Place,
+fn put_step<const N: usize>(
+    page: &mut Page<N>,
     first: bool,
     last: Record,
     cycle: u64,
     lines: Record,
-) -> Place
-    ensures { Adds page.old place page.new result (step_text first last cycle lines) }
+)
+    ensures { page.new ≡ grown N page.old (step_text first last cycle lines) }
 {
-    let time = put_time(page, place, cycle);
+    put_time(page, cycle);
     let before = levels_of(last);
     let after = levels_of(lines);
-    put_changes(page, time, first, &before, &after)
+    put_changes(page, first, &before, &after);
 }
 
 // No line is active: so reads a record of which there is no byte.
@@ -151,38 +137,37 @@ fn inactive() -> Record
 }
 
 // The two steps of a record before which cycles are missing: to all lines inactive, and from there.
-fn put_apart(
-    page: &mut [u8],
-    place: Place,
+fn put_apart<const N: usize>(
+    page: &mut Page<N>,
     stood: u64,
     last: Record,
     cycle: u64,
     lines: Record,
-) -> Place
-    ensures { Adds page.old place page.new result (step_text false last (cycle_behind stood) blank ++ step_text false blank cycle lines) }
+)
+    ensures { page.new ≡ grown N page.old (step_text false last (cycle_behind stood) blank ++ step_text false blank cycle lines) }
 {
     let none = inactive();
-    let fallen = put_step(page, place, false, last, behind(stood), none);
-    put_step(page, fallen, false, none, cycle, lines)
+    put_step(page, false, last, behind(stood), none);
+    put_step(page, false, none, cycle, lines);
 }
 
 // A record's text on the page.
-fn put_text(
-    page: &mut [u8],
-    place: Place,
+fn put_text<const N: usize>(
+    page: &mut Page<N>,
     first: bool,
     stood: u64,
     last: Record,
     gap: u64,
     cycle: u64,
     lines: Record,
-) -> Place
-    ensures { Adds page.old place page.new result (change_text first stood last gap cycle lines) }
+)
+    ensures { page.new ≡ grown N page.old (change_text first stood last gap cycle lines) }
 {
     if !first & (1 < gap) {
-        return put_apart(page, place, stood, last, cycle, lines);
+        put_apart(page, stood, last, cycle, lines);
+    } else {
+        put_step(page, first, last, cycle, lines);
     }
-    put_step(page, place, first, last, cycle, lines)
 }
 
 // Puts the text of a record at the place, or nothing where it does not fit. It is the first one shown, or stands so many cycles, gap, behind the last one
@@ -199,22 +184,18 @@ pub fn put_change(
 ) -> Place
     ensures { (result ≡ moved_by (length buffer.old) place (length (change_text first stood last gap cycle lines))) × (buffer.new ≡ put_at buffer.old place (change_text first stood last gap cycle lines)) }
 {
-    let start = Place::front();
-    let mut page = [0u8; PAGE];
-    let whole = put_text(&mut page, start, first, stood, last, gap, cycle, lines);
-    let size = whole.at;
-    text::put_word(buffer, place, &page[..size])
+    let mut page = Page::<PAGE>::new();
+    put_text(&mut page, first, stood, last, gap, cycle, lines);
+    page.put_into(buffer, place)
 }
 
 // Puts the line at the end of a dump, or nothing where it does not fit: the cycle behind that of the last record shown.
 pub fn put_end(buffer: &mut [u8], place: Place, cycle: u64) -> Place
     ensures { (result ≡ moved_by (length buffer.old) place (length (end_text cycle))) × (buffer.new ≡ put_at buffer.old place (end_text cycle)) }
 {
-    let start = Place::front();
-    let mut page = [0u8; PAGE];
-    let line = put_time(&mut page, start, behind(cycle));
-    let size = line.at;
-    text::put_word(buffer, place, &page[..size])
+    let mut page = Page::<PAGE>::new();
+    put_time(&mut page, behind(cycle));
+    page.put_into(buffer, place)
 }
 
 // Puts the head of a dump at the place, or nothing where it does not fit.

@@ -1,10 +1,8 @@
 -- `vcdlines::put_time` meets its contract: the pieces behind one another. Assumes nothing.
-use Rattle.printed.proofs.AddingLaws.{adds_put, adds_then, adds_is}
-use Rattle.printed.specs.Lines.{named}
+use Rattle.text.proofs.PageLaws.{grown_then}
 use Rattle.vcdlines.specs.Dump.{time_line}
 use Rattle.vcdlines.proofs.put_time.Goals as goal
 
 pub returns : goal.returns
 unfolding time_line
-returns c = let a = c.args in
-    adds_then (adds_is (named "#" a.cycle) (adds_put c.put_named-number.ensures)) (adds_put c.put_word.ensures)
+returns g c = rw (c.put_named.ensures, grown_then) at c.put.ensures
