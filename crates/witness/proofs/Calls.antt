@@ -19,15 +19,13 @@ use Rattle.rules.specs.Recording.{sixteen}
 use Rattle.feeding.specs.declared.Stop.{Stop}
 use Rattle.feeding.specs.declared.Stop.TheVariants.{AtBreach}
 use Rattle.feeding.specs.declared.Stream.{Stream}
-use Rattle.feeding.specs.declared.Fed.{Fed}
 use Rattle.feeding.specs.declared.Ending.{Ending}
-use Rattle.feeding.specs.State.{goes, padded, torn_of, stream_bounds, fresh_of, feed_of, fed_of, finish_of}
+use Rattle.feeding.specs.State.{goes, padded, torn_of, feed_of, finish_of}
 use Rattle.why.specs.declared.Figures.{Figures}
 use Rattle.why.specs.Figures.{figures_of}
 use Rattle.witness.specs.declared.Witness.{Witness}
-use Rattle.witness.specs.declared.Noted.{Noted}
 use Rattle.witness.specs.declared.Reason.{Reason}
-use Rattle.witness.specs.State.{broken_figures, figures_by, no_record, caught_in, begun_of, note_of, noted_of, reason_in}
+use Rattle.witness.specs.State.{broken_figures, figures_by, no_record, caught_in, note_of, reason_in}
 
 -- ---- the record that sixteen bytes hold
 lines_are : (bytes : List ℕ) → length bytes ≡ 16 → lines_of bytes ≡ record_in bytes
@@ -52,30 +50,17 @@ pub caught_as : (stop : Stop) (b : Broken) (n at : ℕ) (all bytes : List ℕ) �
 caught_as stop b n at all bytes se ae be = be ∙ ap (λ (k : ℕ). padded (sixteen all k)) ae ∙ sym (ap (λ (s : Stop). caught_in s n all) se)
 
 -- ---- the calls
-pub begun_as : (limit : ℕ) (f : Fed) → f ≡ fresh_of limit → ◌≡◌ {A = Noted} (record { number = f.number; witness = record { stream = f.stream; bytes = no_record } }) (begun_of limit)
-unfolding begun_of
-begun_as limit f e = ap (λ (x : Fed). record { number = x.number; witness = record { stream = x.stream; bytes = no_record } }) e
-
-pub note_as : (w : Witness) (piece : List ℕ) (f : Fed) (bytes : List ℕ) → stream_bounds w.stream ≡ true → goes w.stream.stop ≡ true → f ≡ fed_of w.stream piece
-    → bytes ≡ caught_in f.stream.stop w.stream.tally.records (torn_of w.stream ++ piece) → ◌≡◌ {A = Witness} (record { stream = f.stream; bytes = bytes }) (note_of w piece)
-unfolding note_of fed_of
-note_as w piece f bytes bounds going fe be =
-    let is : f.stream ≡ feed_of w.stream piece = ap (λ (x : Fed). x.stream) (fe ∙ cond-true _ _ bounds) in
-    ap (λ (l : List ℕ). record { stream = f.stream; bytes = l }) be
+pub note_as : (w : Witness) (piece : List ℕ) (next : Stream) (bytes : List ℕ) → goes w.stream.stop ≡ true → next ≡ feed_of w.stream piece
+    → bytes ≡ caught_in next.stop w.stream.tally.records (torn_of w.stream ++ piece) → ◌≡◌ {A = Witness} (record { stream = next; bytes = bytes }) (note_of w piece)
+unfolding note_of
+note_as w piece next bytes going is be =
+    ap (λ (l : List ℕ). record { stream = next; bytes = l }) be
     ∙ ap (λ (s : Stream). record { stream = s; bytes = caught_in s.stop w.stream.tally.records (torn_of w.stream ++ piece) }) is
     ∙ sym (cond-true _ _ going)
 
 pub note_ended : (w : Witness) (piece : List ℕ) → goes w.stream.stop ≡ false → w ≡ note_of w piece
 unfolding note_of
 note_ended w piece e = sym (cond-false _ _ e)
-
-pub noted_in : (w next : Witness) (piece : List ℕ) → stream_bounds w.stream ≡ true → next ≡ note_of w piece → ◌≡◌ {A = Noted} (record { number = 0; witness = next }) (noted_of w piece)
-unfolding noted_of
-noted_in w next piece b e = ap (λ (x : Witness). record { number = 0; witness = x }) e ∙ sym (cond-true _ _ b)
-
-pub noted_out : (w : Witness) (piece : List ℕ) → stream_bounds w.stream ≡ false → ◌≡◌ {A = Noted} (record { number = 5; witness = w }) (noted_of w piece)
-unfolding noted_of
-noted_out w piece b = sym (cond-false _ _ b)
 
 pub finish_as : (w : Witness) (e : Ending) (f : Figures) → e ≡ finish_of w.stream → f ≡ figures_by e.verdict w.stream.judge w.bytes → ◌≡◌ {A = Reason} (record { ending = e; figures = f }) (reason_in w)
 unfolding reason_in

@@ -10,6 +10,7 @@ use lib.ListN.{length, take, drop, replicate, length-append, length-drop}
 use lib.Seq.{length-take-le, take-append-le, take-append_seam, drop-append-le, drop-drop}
 use borrow.Author.Tests.{eqb-true, eqb-false, le-ltb}
 use Rattle.basics.proofs.Bools.{choice, by-test, cond-true, cond-false}
+use Rattle.basics.specs.Answers.{accepted}
 use Rattle.rules.specs.declared.Broken.{Broken}
 use Rattle.rules.specs.declared.Judge.{Judge}
 use Rattle.rules.specs.declared.Progress.{Progress}
@@ -223,9 +224,9 @@ module _ (limit : ℕ) (low : 1 ≤ limit) (high : limit ≤ 16) where
     note_more = by-test (goes (input_state limit x).stop) more-going more-ended
 
     -- and no piece is refused
-    pub noted_more : noted_of (witness_of x) y ≡ record { number = 0; witness = witness_of (x ++ y) }
+    pub noted_more : noted_of (witness_of x) y ≡ accepted (witness_of (x ++ y))
     unfolding noted_of
-    noted_more = cond-true _ _ (state_bounds limit low high x) ∙ ap (λ (w : Witness). record { number = 0; witness = w }) note_more
+    noted_more = cond-true _ _ (state_bounds limit low high x) ∙ ap accepted note_more
 
   -- an input from the start
   pub witness_fresh : fresh_witness limit ≡ witness_of []

@@ -1,5 +1,7 @@
 -- A judge that is fed an input in pieces and keeps the record that broke a rule: its state, and what `fresh`, `feed` and `finish` answer.
 use Rattle.std.specs.Prelude.{ℕ, ◌-◌, cond, List, ◌++◌, replicate}
+use Rattle.basics.specs.Answers.{Answer, accepted, refused}
+use Rattle.basics.specs.Numbers.{lawful_limit}
 use Rattle.rules.specs.declared.Broken.{Broken}
 use Rattle.rules.specs.declared.Judge.{Judge}
 use Rattle.rules.specs.declared.Verdict.{Verdict}
@@ -10,11 +12,10 @@ use Rattle.rules.specs.Run.{taken_in}
 use Rattle.rules.specs.Recording.{sixteen}
 use Rattle.feeding.specs.declared.Stop.{Stop}
 use Rattle.feeding.specs.declared.Stop.TheVariants.{Going, AtBreach, PastMost}
-use Rattle.feeding.specs.State.{goes, padded, torn_of, stream_bounds, fresh_stream, fresh_of, feed_of, finish_of}
+use Rattle.feeding.specs.State.{goes, padded, torn_of, stream_bounds, fresh_stream, no_stream, feed_of, finish_of}
 use Rattle.why.specs.declared.Figures.{Figures}
 use Rattle.why.specs.Figures.{figures, figures_of}
 use Rattle.witness.specs.declared.Witness.{Witness}
-use Rattle.witness.specs.declared.Noted.{Noted}
 use Rattle.witness.specs.declared.Reason.{Reason}
 
 -- ---- the figures
@@ -46,9 +47,13 @@ caught_in PastMost n bytes = no_record
 abbrev pub fresh_witness : ℕ → Witness
 fresh_witness limit = record { stream = fresh_stream limit; bytes = no_record }
 
+-- all zeros: what a refusal gives
+unfoldable pub no_witness : Witness
+no_witness = record { stream = no_stream; bytes = no_record }
+
 -- refusal 3: "hold limit not 1 to 16"
-unfoldable pub begun_of : ℕ → Noted
-begun_of limit = record { number = (fresh_of limit).number; witness = record { stream = (fresh_of limit).stream; bytes = no_record } }
+unfoldable pub begun_of : ℕ → Answer Witness
+begun_of limit = cond (lawful_limit limit) (accepted (fresh_witness limit)) (refused 3 no_witness)
 
 -- the judge is fed the piece; once the judging has ended, nothing changes any more
 unfoldable pub note_of : Witness → List ℕ → Witness
@@ -61,8 +66,8 @@ note_of w piece =
     w
 
 -- refusal 5 hands the state back
-unfoldable pub noted_of : Witness → List ℕ → Noted
-noted_of w piece = cond (stream_bounds w.stream) (record { number = 0; witness = note_of w piece }) (record { number = 5; witness = w })
+unfoldable pub noted_of : Witness → List ℕ → Answer Witness
+noted_of w piece = cond (stream_bounds w.stream) (accepted (note_of w piece)) (refused 5 w)
 
 -- what the input comes to, if it ends here
 unfoldable pub reason_in : Witness → Reason

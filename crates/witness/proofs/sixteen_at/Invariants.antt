@@ -1,12 +1,10 @@
 -- `witness::sixteen_at` meets its contract: after i turns the first i bytes are there. Assumes nothing.
-use Prim.Native.Nat.{ℕ, ◌+◌, ◌-◌, ◌*◌, ◌≤◌, ◌<◌}
+use Prim.Native.Nat.{ℕ, ◌+◌, ◌*◌, ◌≤◌, ◌<◌}
 use mathlib.Core.List.{◌++◌}
 use mathlib.Core.Path.{◌≡◌}
-use lib.ListN.{length, get_or, take}
+use lib.ListN.{length, get_or}
+use Rattle.feeding.specs.State.{torn_of}
 use Rattle.witness.proofs.sixteen_at.Given as goal
 
 abbrev pub invariant-loop-i : goal.invariant-loop-i
-invariant-loop-i l = (l.i ≤ 16) × ((length l.next ≡ 16) × ((l.held < 16) × ((k : ℕ) → k < l.i → get_or l.next k 0 ≡ get_or (take l.held l.torn ++ l.piece) (l.place * 16 + k) 0)))
-
-abbrev pub decreases-loop-i : goal.decreases-loop-i
-decreases-loop-i l = 16 - l.i
+invariant-loop-i l = (l.i ≤ 16) × ((length l.next ≡ 16) × ((l.before.held < 16) × ((k : ℕ) → k < l.i → get_or l.next k 0 ≡ get_or (torn_of l.before ++ l.piece) (l.place * 16 + k) 0)))
