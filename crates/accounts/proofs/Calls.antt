@@ -1,7 +1,5 @@
 -- Laws of the calls with an account: bounds, what a call puts together, and that the calls by value are those of the caller's account. Assumes nothing.
 use Rattle.std.proofs.Common.{◌≡◌, ℕ, zero, suc, ◌+◌, ◌-◌, ◌/◌, ◌%◌, ◌^◌, ◌<◌, ◌≤◌, Bool, true, ◌&&◌, eqb, leb, List, [], ◌∷◌, length, get_or, take, drop, sym, refl, ap, ◌∙◌, subst, arith, take_all, drop-cons, eq-eqb, ne_eqb, eqb-true, le-leb, leb-false, leb-true}
-use mathlib.Core.Bool.{and_assoc, and-true}
-use lib.Seq.{drop-length}
 use borrow.Author.Tests.{lt-leb, eqb-false}
 use Rattle.basics.proofs.Bools.{by-test, cond-true, cond-false, and_both, both_and}
 use Rattle.entries.specs.declared.Entry.{Entry}
@@ -24,28 +22,15 @@ use Rattle.usage.proofs.Running.{Passed, passed, account-length}
 use Rattle.usage.proofs.Calling.{accounted_judged, accounted_refused, accepted_bounds}
 use Rattle.usage.proofs.Telling.{told_use_of}
 use Rattle.accounts.specs.Watch.{Within, Chargeable}
-use Rattle.accounts.specs.declared.Call.{Call}
-use Rattle.accounts.specs.ByValue.{accounted_for, call_of, share_for}
+use Rattle.accounts.specs.ByValue.{accounted_for, share_for}
 
 -- ---- bounds
 -- a difference within, or the sum
-pub shifted : (busy span starts : ℕ) → span < busy → leb (busy - span) starts ≡ leb busy (span + starts)
-shifted busy span starts lt =
+pub shifted : (busy span starts : ℕ) → leb (busy - span) starts ≡ leb busy (span + starts)
+shifted busy span starts =
     by-test (leb busy (span + starts))
     (λ e. let z = leb-true busy (span + starts) e in le-leb (busy - span) starts (omega arith) ∙ sym e)
     (λ e. let z = leb-false busy (span + starts) e in lt-leb (busy - span) starts (omega arith) ∙ sym e)
-
--- one entry more
-pub bounds_next : (t : Tally) (es : List Entry) (all : Bool) (k : ℕ) → k < length es → (all && entry_bounds t (get_or es k zero_entry) && entries_bounds t (drop (k + 1) es)) ≡ (all && entries_bounds t (drop k es))
-bounds_next t es all k lt =
-    let on : k + 1 ≡ suc k = omega arith in
-    and_assoc all (entry_bounds t (get_or es k zero_entry)) (entries_bounds t (drop (k + 1) es))
-    ∙ ap (λ (m : ℕ). all && (entry_bounds t (get_or es k zero_entry) && entries_bounds t (drop m es))) on
-    ∙ ap (λ (l : List Entry). all && entries_bounds t l) (sym (drop-cons es k zero_entry lt))
-
--- none more
-pub bounds_all : (t : Tally) (es : List Entry) (all : Bool) → (all && entries_bounds t (drop (length es) es)) ≡ all
-bounds_all t es all = ap (λ (l : List Entry). all && entries_bounds t l) (drop-length es) ∙ and-true all
 
 -- entries within the bounds of a tally leave room for 2^30 records
 within_bounds : (t : Tally) (es : List Entry) (k : ℕ) → entries_bounds t es ≡ true → ((get_or es k zero_entry).starts ≤ t.starts) × ((get_or es k zero_entry).busy ≤ t.span + t.starts)
@@ -73,10 +58,10 @@ pub record Accepted (size : ℕ) (j : Judge) (t : Tally) (es : List Entry) : Typ
   pub whole : size % 16 ≡ 0
   pub bounds : entries_bounds t es ≡ true
 
-pub accepted_for : (size : ℕ) (j : Judge) (t : Tally) (es : List Entry) (lent n : ℕ) → n ≡ refusal_for size j t es lent → n ≡ 0 → Accepted size j t es
+pub accepted_for : (size : ℕ) (j : Judge) (t : Tally) (es : List Entry) (lent : ℕ) → 0 ≡ refusal_for size j t es lent → Accepted size j t es
 unfolding refusal_for
-accepted_for size j t es lent n e z =
-    let a = unless-zero (judge_bounds j && tally_bounds t && entries_bounds t es) 5 _ refl (sym e ∙ z) in
+accepted_for size j t es lent e =
+    let a = unless-zero (judge_bounds j && tally_bounds t && entries_bounds t es) 5 _ refl (sym e) in
     let b = unless-zero (leb (t.records + size / 16) most_records) 8 _ refl a.1 in
     let c = unless-zero (eqb (size % 16) 0 && eqb lent 16) 1 0 refl b.1 in
     let p = and_both (judge_bounds j && tally_bounds t) (entries_bounds t es) a.0 in
@@ -128,13 +113,13 @@ module _ (bytes : List ℕ) (j : Judge) (t : Tally) (es : List Entry) (h : Accep
         room = bounds_room t es h.tally (omega arith) h.bounds;
       }
 
-  pub judged_for : (lent n : ℕ) (account : List Entry) → n ≡ refusal_for (length bytes) j t es lent → n ≡ 0 → account ≡ account_of j es (records_in (o.tally.records - t.records) bytes)
+  pub judged_for : (lent : ℕ) (account : List Entry) → 0 ≡ refusal_for (length bytes) j t es lent → account ≡ account_of j es (records_in (o.tally.records - t.records) bytes)
       → record { verdict = o.verdict; judge = o.judge; tally = o.tally; entries = account } ≡ accounted_for bytes j t es lent
   unfolding accounted_for
-  judged_for lent n account e z ae =
+  judged_for lent account e ae =
       ap (λ (x : List Entry). record { verdict = o.verdict; judge = o.judge; tally = o.tally; entries = x }) ae
       ∙ ap (λ (x : Outcome). record { verdict = x.verdict; judge = x.judge; tally = x.tally; entries = account_of j es (records_in (x.tally.records - t.records) bytes) }) outcome_is
-      ∙ sym (cond-true _ _ (eq-eqb (refusal_for (length bytes) j t es lent) 0 (sym e ∙ z)))
+      ∙ sym (cond-true _ _ (eq-eqb (refusal_for (length bytes) j t es lent) 0 (sym e)))
 
 -- ---- of the caller's account
 -- with sixteen entries there is no difference
@@ -195,17 +180,14 @@ account_lent bytes j t es =
         ∙ sym (accounted_refused bytes j t es ne)
 
 -- what a caller learns who lends the tally and the account: the answer, what these have become, and what it says of the whole recording
-pub lent_told : (bytes : List ℕ) (j : Judge) (t : Tally) (es zs : List Entry) (c : Call) → c ≡ call_of (accounted_for bytes j t (sixteen_of es) (length es)) → zs ≡ spread_of es c.entries
-    → (c.judged ≡ judges_answer (accounted_of bytes j t es)) × ((c.tally ≡ (accounted_of bytes j t es).tally) × ((zs ≡ (accounted_of bytes j t es).entries)
-    × ((limit : ℕ) (past : List ℕ) → AfterUse limit past j t es → ToldUse limit past bytes j t es (record { verdict = c.judged.verdict; judge = c.judged.judge; tally = c.tally; entries = zs }))))
-lent_told bytes j t es zs c ce ze =
-    let a : Accounted = accounted_for bytes j t (sixteen_of es) (length es) in
-    let is = account_lent bytes j t es in
-    let entries : zs ≡ spread_of es a.entries = ze ∙ ap (λ (x : Call). spread_of es x.entries) ce in
-    let all : record { verdict = c.judged.verdict; judge = c.judged.judge; tally = c.tally; entries = zs } ≡ accounted_of bytes j t es =
-    ap (λ (x : Call). record { verdict = x.judged.verdict; judge = x.judged.judge; tally = x.tally; entries = zs }) ce
-    ∙ ap (λ (x : List Entry). record { verdict = a.verdict; judge = a.judge; tally = a.tally; entries = x }) entries
-    ∙ is in
+pub lent_told : (bytes : List ℕ) (j : Judge) (t : Tally) (es zs : List Entry) (a : Accounted) → a ≡ accounted_for bytes j t (sixteen_of es) (length es) → zs ≡ spread_of es a.entries
+    → (judges_answer a ≡ judges_answer (accounted_of bytes j t es)) × ((a.tally ≡ (accounted_of bytes j t es).tally) × ((zs ≡ (accounted_of bytes j t es).entries)
+    × ((limit : ℕ) (past : List ℕ) → AfterUse limit past j t es → ToldUse limit past bytes j t es (record { verdict = a.verdict; judge = a.judge; tally = a.tally; entries = zs }))))
+lent_told bytes j t es zs a ae ze =
+    let all : record { verdict = a.verdict; judge = a.judge; tally = a.tally; entries = zs } ≡ accounted_of bytes j t es =
+    ap (λ (x : List Entry). record { verdict = a.verdict; judge = a.judge; tally = a.tally; entries = x }) ze
+    ∙ ap (put_back es) ae
+    ∙ account_lent bytes j t es in
     (ap judges_answer all, (ap (λ (x : Accounted). x.tally) all, (ap (λ (x : Accounted). x.entries) all, told_use_of bytes j t es _ all)))
 
 -- ---- one slot's entry of an account that is lent

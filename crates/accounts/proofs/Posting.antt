@@ -1,7 +1,10 @@
 -- What a piece that is fed leaves to charge, and that it may be charged. Assumes nothing.
 use Rattle.std.proofs.Common.{◌≡◌, ℕ, ◌-◌, ◌^◌, ◌<◌, ◌≤◌, true, false, List, ◌++◌, take, sym, ap, ◌∙◌, subst, arith}
-use Rattle.basics.specs.Numbers.{lawful_limit}
-use Rattle.basics.proofs.Bools.{by-test, push, and_both, cond-true, cond-false}
+use Rattle.std.specs.Prelude.{Result}
+use Rattle.std.specs.Result.{result_unwrap_or}
+use Rattle.basics.specs.Answers.{answered}
+use Rattle.basics.specs.declared.refusal.Refusal.{Refusal}
+use Rattle.basics.proofs.Bools.{by-test, and_both, cond-true, cond-false}
 use Rattle.entries.specs.declared.Entry.{Entry}
 use Rattle.rules.specs.declared.Tally.{Tally}
 use Rattle.rules.specs.Bounds.{SoundJudge, SoundTally}
@@ -9,17 +12,17 @@ use Rattle.rules.specs.declared.Verdict.TheVariants.{OutOfBounds}
 use Rattle.rules.specs.Run.{records_in}
 use Rattle.rules.specs.State.{zero_tally}
 use Rattle.rules.specs.Verdict.{most_records}
-use Rattle.feeding.specs.declared.Fed.{Fed}
 use Rattle.feeding.specs.declared.Stream.{Stream}
 use Rattle.feeding.specs.declared.Ending.{Ending}
-use Rattle.feeding.specs.State.{goes, torn_of, stream_bounds, taken_in, gone_on, feed_of, fed_of, finish_of, fresh_of}
+use Rattle.feeding.specs.State.{goes, torn_of, stream_bounds, taken_in, gone_on, feed_of, fed_of, finish_of}
 use Rattle.feeding.proofs.Bounds.{bounds_are}
 use Rattle.feeding.proofs.GoOn.{taken-fits, gone_sound}
 use Rattle.usage.specs.declared.Ledger.{Ledger}
 use Rattle.usage.specs.declared.Closing.{Closing}
 use Rattle.usage.specs.Charge.{none_used, account_of}
 use Rattle.usage.specs.Calls.{entries_bounds}
-use Rattle.usage.specs.Pieces.{ledger_bounds, fresh_ledger, begun_of, post_of, closing_of}
+use Rattle.usage.specs.Pieces.{ledger_bounds, post_of, closing_of}
+use Rattle.stream.proofs.Calls.{fed_or}
 use Rattle.usage.proofs.Running.{passed}
 use Rattle.accounts.specs.Watch.{Within, Chargeable}
 use Rattle.accounts.proofs.Calls.{bounds_room}
@@ -71,34 +74,25 @@ module _ (l : Ledger) (piece : List ℕ) (b : ledger_bounds l ≡ true) where
       (λ g. subst Counted (sym (cond-false _ _ g)) counted-ended)
 
   -- of the answer of `feed`
-  module _ (fed : Fed) (e : fed ≡ fed_of s piece) where
-    next_is : fed.stream ≡ feed_of s piece
-    unfolding fed_of
-    next_is = ap (λ (f : Fed). f.stream) (e ∙ cond-true _ _ both.0)
+  module _ (r : Result Stream Refusal) (answers : answered s r ≡ fed_of s piece) (next : Stream) (e : next ≡ result_unwrap_or r s) where
+    next_is : next ≡ feed_of s piece
+    next_is = fed_or s piece r next answers e both.0
 
-    pub no_fewer : s.tally.records ≤ fed.stream.tally.records
+    pub no_fewer : s.tally.records ≤ next.tally.records
     no_fewer = subst (λ (x : Stream). s.tally.records ≤ x.tally.records) (sym next_is) counted.more
 
-    pub may_charge : Chargeable all (fed.stream.tally.records - s.tally.records) s.judge l.entries
+    pub may_charge : Chargeable all (next.tally.records - s.tally.records) s.judge l.entries
     may_charge = subst (λ (x : Stream). Chargeable all (x.tally.records - s.tally.records) s.judge l.entries) (sym next_is) counted.may
 
-    pub posts : (entries : List Entry) → entries ≡ account_of s.judge l.entries (records_in (fed.stream.tally.records - s.tally.records) all) → record { stream = fed.stream; entries = entries } ≡ post_of l piece
+    pub posts : (entries : List Entry) → entries ≡ account_of s.judge l.entries (records_in (next.tally.records - s.tally.records) all) → record { stream = next; entries = entries } ≡ post_of l piece
     unfolding post_of
     posts entries x =
-        ap (λ (y : List Entry). record { stream = fed.stream; entries = y }) x
+        ap (λ (y : List Entry). record { stream = next; entries = y }) x
         ∙ ap (λ (y : Stream). record { stream = y; entries = account_of s.judge l.entries (records_in (y.tally.records - s.tally.records) all) }) next_is
 
 -- where no torn record is held, the piece is all
 pub whole_piece : (s : Stream) (piece : List ℕ) → s.held ≡ 0 → torn_of s ++ piece ≡ piece
 whole_piece s piece e = ap (λ (k : ℕ). take k s.torn ++ piece) e
-
--- ---- an input from the start
-pub begins : (limit : ℕ) (fed : Fed) (entries : List Entry) → fed ≡ fresh_of limit → entries ≡ none_used → record { number = fed.number; ledger = record { stream = fed.stream; entries = entries } } ≡ begun_of limit
-unfolding fresh_of begun_of fresh_ledger
-begins limit fed entries e x =
-    ap (λ (y : List Entry). record { number = fed.number; ledger = record { stream = fed.stream; entries = y } }) x
-    ∙ ap (λ (f : Fed). record { number = f.number; ledger = record { stream = f.stream; entries = none_used } }) e
-    ∙ push (λ (f : Fed). record { number = f.number; ledger = record { stream = f.stream; entries = none_used } }) (lawful_limit limit) _ _
 
 -- ---- the end of the input
 pub closes_in : (l : Ledger) (ending : Ending) → ledger_bounds l ≡ true → ending ≡ finish_of l.stream → ◌≡◌ {A = Closing} (record { ending = ending; entries = l.entries }) (closing_of l)

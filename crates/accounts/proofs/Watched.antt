@@ -3,6 +3,8 @@ use Rattle.std.proofs.Common.{◌≡◌, ℕ, zero, suc, ◌+◌, ◌*◌, ◌/�
 use mathlib.Core.Bool.{false≢true}
 use lib.Seq.{set-get_or}
 use borrow.Author.Tests.{eqb-false}
+use Rattle.std.specs.Prelude.{Option, Some, None}
+use Rattle.std.specs.Option.{unwrap_or}
 use Rattle.basics.specs.Lines.{one}
 use Rattle.basics.specs.Numbers.{transfer_most}
 use Rattle.basics.proofs.Bools.{by-test, cond-true, cond-false, choice}
@@ -47,6 +49,11 @@ low_bits n = omega arith
 pub stamp-lt : (bytes : List ℕ) → (record_in bytes).stamp < 2 ^ 32
 unfolding record_in fields_in
 stamp-lt bytes = low_bits (number bytesWide bytes / 2 ^ 96)
+
+-- the owner's slot, as `unwrap_or` gives it
+pub owners_slot : (o : Option ℕ) → unwrap_or o 0 ≡ slot_of o
+owners_slot None = refl
+owners_slot (Some slot) = refl
 
 -- ---- what of a record an account hangs on
 bit-zero : (n : ℕ) → (n % 2 ≡ 1 → ⊥) → n % 2 ≡ 0

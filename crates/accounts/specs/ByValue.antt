@@ -6,15 +6,10 @@ use Rattle.entries.specs.declared.Entry.{Entry}
 use Rattle.rules.specs.declared.Judge.{Judge}
 use Rattle.rules.specs.declared.Tally.{Tally}
 use Rattle.usage.specs.declared.Accounted.{Accounted}
-use Rattle.usage.specs.Calls.{refusal_for, left_by, judges_answer, own_entry, share_refusal, answer_by}
-use Rattle.accounts.specs.declared.Call.{Call}
+use Rattle.usage.specs.Calls.{refusal_for, left_by, own_entry, share_refusal, answer_by}
 
 unfoldable pub accounted_for : List ℕ → Judge → Tally → List Entry → ℕ → Accounted
 accounted_for bytes j t es lent = left_by (refusal_for (length bytes) j t es lent) bytes j t es
-
--- the answer to a caller who lends the tally and the account, and what these are to be
-abbrev pub call_of : Accounted → Call
-call_of a = record { judged = judges_answer a; tally = a.tally; entries = a.entries }
 
 unfoldable pub share_for : ℕ → Tally → List Entry → ℕ → Answer Entry
 share_for slot t es lent =

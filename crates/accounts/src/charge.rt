@@ -1,6 +1,6 @@
 // Charging the records that the judge has passed to the slots that they belong to (document 02, wish 3, "Who used the bus"): a second pass over their
 // bytes, which reads five bytes of a record and touches an entry only at a START, an ACK or a RESET.
-ghost use Rattle.std.specs.Prelude.{◌≡◌, ◌+◌, ◌-◌, ◌*◌, ◌^◌, ◌<◌, ◌≤◌, length, take, if◌then◌else◌};
+ghost use Rattle.std.specs.Prelude.{◌≡◌, ◌+◌, ◌-◌, ◌*◌, ◌^◌, ◌<◌, ◌≤◌, length, take};
 ghost use Rattle.basics.specs.Lines.{one};
 ghost use Rattle.record.specs.Layout.{record_in};
 ghost use Rattle.rules.specs.Rules.{difference};
@@ -10,7 +10,7 @@ ghost use Rattle.usage.specs.Charge.{slot_of, added as addedTo, account_of};
 ghost use Rattle.accounts.specs.Watch.{shown_of, last_of, watch_of, idled_of, charged_of, slot_by, busy_by, charged_by, Roomy, Chargeable};
 
 use entries::Entry;
-use rules::{Judge, Owner, Transfer};
+use rules::Judge;
 
 // ---- a record
 
@@ -26,22 +26,15 @@ struct Shown {
     counts: bool,
 }
 
-// Four bytes as one number, which a compiler reads in one load.
-fn stamp_of(a: u8, b: u8, c: u8, d: u8) -> u32
-    ensures { result ≡ a * 16777216 + b * 65536 + c * 256 + d }
-{
-    a as u32 * 16777216 + b as u32 * 65536 + c as u32 * 256 + d as u32
-}
-
 // The record at the front of a part. `record::lines_in` reads all of its fields, and where it isn't inlined costs five times as much as this pass.
 fn shown_in(part: &[u8]) -> Shown
     requires { 16 ≤ length part.now }
     ensures { result ≡ shown_of (record_in (take 16 part.now)) }
 {
     let four = part[4];
-    let stamp = stamp_of(part[0], part[1], part[2], part[3]);
+    let stamp = u32::from_be_bytes([part[0], part[1], part[2], part[3]]);
     Shown {
-        stamp: stamp,
+        stamp,
         reset: four / 128 % 2 == 1,
         rqst: four / 64 % 2 == 1,
         arb: four / 4 % 16,
@@ -64,68 +57,17 @@ pub(crate) struct Watch {
     pub(crate) began: u32,
 }
 
-// The cycles from one stamp to another, modulo 2^32.
-fn cycles(from: u32, to: u32) -> u32
-    ensures { result ≡ difference from to }
-{
-    std::num::wrapping_sub_u32(to, from)
-}
-
-fn pick_cycles(test: bool, a: u32, b: u32) -> u32
-    ensures { result ≡ (if test then a else b) }
-{
-    if test { a } else { b }
-}
-
-fn slot_in(owner: Owner) -> u8
-    ensures { result ≡ slot_of owner }
-{
-    match owner {
-        Owner::Nobody => 0,
-        Owner::Slot(slot) => slot,
-    }
-}
-
-fn busy_in(transfer: Transfer) -> u32
-    ensures { result ≡ open_busy transfer }
-{
-    match transfer {
-        Transfer::Idle => 0,
-        Transfer::Open {
-            words: _,
-            strobes: _,
-            age: _,
-            busy,
-        } => busy,
-    }
-}
-
 // What the judge's state says, before a record with this stamp.
 fn watch_of(judge: Judge, first: u32) -> Watch
     ensures { result ≡ watch_of judge first }
 {
-    let wave = judge.wave;
-    let owner = wave.owner;
-    let transfer = judge.transfer;
-    let last = pick_cycles(judge.seen, judge.stamp, first);
+    let last = basics::pick(judge.seen, judge.stamp, first);
     Watch {
         stamp: last,
-        rqst: wave.rqst,
-        slot: slot_in(owner),
-        opened: rules::is_open(transfer),
-        began: cycles(busy_in(transfer), last),
-    }
-}
-
-fn after_idle(watch: Watch, shown: Shown) -> Watch
-    ensures { result ≡ idled_of watch shown }
-{
-    Watch {
-        stamp: shown.stamp,
-        rqst: shown.rqst,
-        slot: watch.slot,
-        opened: watch.opened,
-        began: watch.began,
+        rqst: judge.wave.rqst,
+        slot: judge.wave.owner.unwrap_or(0),
+        opened: rules::is_open(judge.transfer),
+        began: last.wrapping_sub(judge.transfer.counts().busy),
     }
 }
 
@@ -145,9 +87,9 @@ fn after_charge(shown: Shown, slot: u8) -> Watch
     Watch {
         stamp: shown.stamp,
         rqst: shown.rqst,
-        slot: slot,
+        slot,
         opened: shown.start & !shown.ack,
-        began: cycles(1, shown.stamp),
+        began: shown.stamp.wrapping_sub(1),
     }
 }
 
@@ -157,7 +99,7 @@ fn after_charge(shown: Shown, slot: u8) -> Watch
 fn slot_of(watch: Watch, shown: Shown) -> u8
     ensures { result ≡ slot_by watch shown }
 {
-    let asked = (cycles(watch.stamp, shown.stamp) == 1) & watch.rqst;
+    let asked = (shown.stamp.wrapping_sub(watch.stamp) == 1) & watch.rqst;
     basics::pick(shown.start & !shown.reset & asked, shown.arb, watch.slot)
 }
 
@@ -166,8 +108,8 @@ fn busy_of(watch: Watch, shown: Shown) -> u32
     ensures { result ≡ busy_by watch shown }
 {
     let attention = basics::one_if(shown.ack) as u32;
-    let ended = pick_cycles(watch.opened, cycles(watch.began, shown.stamp), 0);
-    pick_cycles(shown.start & !shown.reset, attention, ended)
+    let ended = basics::pick(watch.opened, shown.stamp.wrapping_sub(watch.began), 0);
+    basics::pick(shown.start & !shown.reset, attention, ended)
 }
 
 fn added(entry: Entry, starts: bool, busy: u32) -> Entry
@@ -196,8 +138,7 @@ pub(crate) fn charge_on(bytes: &[u8], n: usize, watch: Watch, entries: [Entry; 1
 {
     let mut account = entries;
     let mut state = watch;
-    let mut i: usize = 0;
-    while i < n {
+    for i in 0..n {
         let at = i * 16;
         let end = at + 16;
         let shown = shown_in(&bytes[at..end]);
@@ -205,13 +146,15 @@ pub(crate) fn charge_on(bytes: &[u8], n: usize, watch: Watch, entries: [Entry; 1
             let slot = slot_of(state, shown);
             let busy = busy_of(state, shown);
             let place = slot as usize;
-            let entry = account[place];
-            account[place] = added(entry, shown.start & !shown.reset, busy);
+            account[place] = added(account[place], shown.start & !shown.reset, busy);
             state = after_charge(shown, slot);
         } else {
-            state = after_idle(state, shown);
+            state = Watch {
+                stamp: shown.stamp,
+                rqst: shown.rqst,
+                ..state
+            };
         }
-        i += 1;
     }
     Charged {
         watch: state,
@@ -224,8 +167,7 @@ pub(crate) fn watch_before(judge: Judge, part: &[u8]) -> Watch
     requires { 16 ≤ length part.now }
     ensures { result ≡ watch_of judge (record_in (take 16 part.now)).stamp }
 {
-    let first = shown_in(part);
-    watch_of(judge, first.stamp)
+    watch_of(judge, shown_in(part).stamp)
 }
 
 // The account after the first n records of these bytes, which the judge has passed from this state.
@@ -241,8 +183,5 @@ pub(crate) fn count_records(
     if n == 0 {
         return entries;
     }
-    let watch = watch_before(judge, bytes);
-    let end = charge_on(bytes, n, watch, entries);
-    let account = end.entries;
-    account
+    charge_on(bytes, n, watch_before(judge, bytes), entries).entries
 }

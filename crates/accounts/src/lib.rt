@@ -6,65 +6,63 @@
 mod charge;
 mod pieces;
 
-ghost use Rattle.std.specs.Prelude.{◌≡◌, ℕ, ◌+◌, List, nat_le};
-ghost use Rattle.basics.specs.Order.{unless};
-ghost use Rattle.usage.specs.Calls.{entry_bounds, entries_bounds, refusal_for, accounted_of, judges_answer, own_entry, answer_by, share_of, share_answer};
+ghost use Rattle.std.specs.Prelude.{◌≡◌, ℕ, List};
+ghost use Rattle.basics.specs.Answers.{answered, call_number};
+ghost use Rattle.entries.specs.Entries.{zero_entry};
+ghost use Rattle.usage.specs.Calls.{entry_bounds, entries_bounds, refusal_for, accounted_of, judges_answer, own_entry, share_of};
 ghost use Rattle.usage.specs.Told.{AfterUse, ToldUse};
-ghost use Rattle.accounts.specs.ByValue.{accounted_for, call_of, share_for};
+ghost use Rattle.accounts.specs.ByValue.{accounted_for, share_for};
 
+use basics::Refusal;
 use entries::Entry;
 pub use pieces::{feed, finish, fresh};
 use rules::{Judge, Judged, Tally};
-use usage::{Accounted, Share};
+use usage::Accounted;
 
 // ---- bounds
 
-// Whether `busy` is at most the sum of the two, which may not fit.
-fn is_within(busy: u64, span: u64, starts: u32) -> bool
-    ensures { result ≡ nat_le busy (span + starts) }
-{
-    if busy <= span {
-        return true;
-    }
-    busy - span <= starts as u64
-}
-
-// At most the tally's STARTs, and at most as many busy cycles as its span and the entry's STARTs together.
+// At most the tally's STARTs, and at most as many busy cycles as its span and the entry's STARTs together, which may not fit as a sum.
+#[tactic(auto, using(crate::proofs::Calls::shifted))]
 fn entry_in_bounds(tally: Tally, entry: Entry) -> bool
     ensures { result ≡ entry_bounds tally entry }
 {
-    (entry.starts <= tally.starts) & is_within(entry.busy, tally.span, entry.starts)
+    entry.starts <= tally.starts && entry.busy.saturating_sub(tally.span) <= entry.starts as u64
 }
 
 fn entries_in_bounds(tally: Tally, entries: [Entry; 16]) -> bool
     ensures { result ≡ entries_bounds tally entries }
 {
-    let mut all = true;
-    let mut slot: usize = 0;
-    while slot < 16 {
-        let entry = entries[slot];
-        all = all & entry_in_bounds(tally, entry);
-        slot += 1;
-    }
-    all
+    entries.iter().all(|entry| entry_in_bounds(tally, *entry))
 }
 
 // ---- judging with an account
 
-// The refusal of a call with so many bytes and an account of `lent` entries, in document 01's order: 5, 8, 1, or 0 where it is accepted.
-fn refusal(size: usize, judge: Judge, tally: Tally, entries: [Entry; 16], lent: usize) -> u8
-    ensures { result ≡ refusal_for size judge tally entries lent }
+// Whether a call with so many bytes and an account of `lent` entries is accepted, in document 01's order of refusals: 5, 8, 1.
+#[tactic(auto, unfolding(usage::specs::Calls::refusal_for))]
+fn refusal(
+    size: usize,
+    judge: Judge,
+    tally: Tally,
+    entries: [Entry; 16],
+    lent: usize,
+) -> Result<(), Refusal>
+    ensures { call_number result ≡ refusal_for size judge tally entries lent }
 {
     let bounded = judge::judge_in_bounds(judge)
         & judge::tally_in_bounds(tally)
         & entries_in_bounds(tally, entries);
+    if !bounded {
+        return Err(Refusal::Bounds);
+    }
     let room = tally.records as u64 + (size / 16) as u64 <= Judge::MOST_RECORDS as u64;
+    if !room {
+        return Err(Refusal::TooMany);
+    }
     let whole = (size % 16 == 0) & (lent == 16);
-    basics::first(
-        bounded,
-        5,
-        basics::first(room, 8, basics::first(whole, 1, 0)),
-    )
+    if !whole {
+        return Err(Refusal::Length);
+    }
+    Ok(())
 }
 
 // Judges a recording, or its next part, with the sixteen entries of an account that has `lent` of its own.
@@ -77,26 +75,21 @@ fn judge_for(
 ) -> Accounted
     ensures { result ≡ accounted_for bytes.now judge tally entries lent }
 {
-    let number = refusal(bytes.len(), judge, tally, entries, lent);
-    if number != 0 {
-        let verdict = rules::refused_by(number);
+    if let Err(refused) = refusal(bytes.len(), judge, tally, entries, lent) {
         return Accounted {
-            verdict: verdict,
-            judge: judge,
-            tally: tally,
-            entries: entries,
+            verdict: rules::refused_by(refused.number()),
+            judge,
+            tally,
+            entries,
         };
     }
     let end = judge::judge_all(bytes, judge, tally);
-    let verdict = end.verdict;
-    let state = end.judge;
-    let totals = end.tally;
-    let passed = (totals.records - tally.records) as usize;
+    let passed = (end.tally.records - tally.records) as usize;
     let account = charge::count_records(bytes, passed, judge, entries);
     Accounted {
-        verdict: verdict,
-        judge: state,
-        tally: totals,
+        verdict: end.verdict,
+        judge: end.judge,
+        tally: end.tally,
         entries: account,
     }
 }
@@ -110,39 +103,6 @@ pub fn judge_account(bytes: &[u8], judge: Judge, tally: Tally, entries: [Entry; 
     judge_for(bytes, judge, tally, entries, 16)
 }
 
-// What a caller who lends the tally and the account is answered, and the two to be.
-#[derive(Clone, Copy)]
-struct Call {
-    judged: Judged,
-    tally: Tally,
-    entries: [Entry; 16],
-}
-
-fn judge_by_value(
-    bytes: &[u8],
-    judge: Judge,
-    tally: Tally,
-    entries: [Entry; 16],
-    lent: usize,
-) -> Call
-    ensures { result ≡ call_of (accounted_for bytes.now judge tally entries lent) }
-{
-    let end = judge_for(bytes, judge, tally, entries, lent);
-    let verdict = end.verdict;
-    let state = end.judge;
-    let next = end.tally;
-    let used = end.entries;
-    let judged = Judged {
-        verdict: verdict,
-        judge: state,
-    };
-    Call {
-        judged: judged,
-        tally: next,
-        entries: used,
-    }
-}
-
 // The same with the tally and the account that the caller lends. An account that is not of sixteen entries is refused by 1.
 pub fn judge_accounts(
     bytes: &[u8],
@@ -153,54 +113,50 @@ pub fn judge_accounts(
     ensures { (result ≡ judges_answer (accounted_of bytes.now judge tally.old account.old)) × ((tally.new ≡ (accounted_of bytes.now judge tally.old account.old).tally) × ((account.new ≡ (accounted_of bytes.now judge tally.old account.old).entries) × ((limit : ℕ) (past : List ℕ) → AfterUse limit past judge tally.old account.old → ToldUse limit past bytes.now judge tally.old account.old (record { verdict = result.verdict; judge = result.judge; tally = tally.new; entries = account.new })))) }
 {
     let entries = entries::gather(account);
-    let end = judge_by_value(bytes, judge, *tally, entries, account.len());
+    let end = judge_for(bytes, judge, *tally, entries, account.len());
     entries::spread(account, end.entries);
     *tally = end.tally;
-    end.judged
+    Judged {
+        verdict: end.verdict,
+        judge: end.judge,
+    }
 }
 
 // ---- one slot's entry
 
-// The entry of the slot itself: "an accepted answer for one slot depends on its entry alone".
+// The entry of the slot itself: "an accepted answer for one slot depends on its entry alone". It is nothing where there is no such slot.
 fn own_entry(slot: u8, entries: [Entry; 16]) -> Entry
     ensures { result ≡ own_entry slot entries }
 {
     if slot <= 15 {
-        let place = slot as usize;
-        return entries[place];
+        return entries[slot as usize];
     }
     Entry::zero()
 }
 
-// The answer, by what holds: 5 where the values are out of bounds, 1 where the account is not of sixteen entries, 2 where there is no such slot.
-fn answer(bounded: bool, sixteen: bool, named: bool, own: Entry) -> Share
-    ensures { share_answer result ≡ answer_by (unless bounded 5 (unless sixteen 1 (unless named 2 0))) own }
-{
-    if bounded {
-        if sixteen {
-            if named {
-                return Share::Is(own);
-            }
-            return Share::NoSlot;
-        }
-        return Share::NotSixteen;
-    }
-    Share::OutOfBounds
-}
-
 // One slot's entry of sixteen, for an account that has `lent` entries of its own.
-fn share_in(slot: u8, tally: Tally, entries: [Entry; 16], lent: usize) -> Share
-    ensures { share_answer result ≡ share_for slot tally entries lent }
+#[tactic(auto, unfolding(crate::specs::ByValue::share_for, usage::specs::Calls::share_refusal))]
+fn share_in(slot: u8, tally: Tally, entries: [Entry; 16], lent: usize) -> Result<Entry, Refusal>
+    ensures { answered zero_entry result ≡ share_for slot tally entries lent }
 {
     let own = own_entry(slot, entries);
     let bounded = judge::tally_in_bounds(tally) & entry_in_bounds(tally, own);
-    answer(bounded, lent == 16, slot <= 15, own)
+    if !bounded {
+        return Err(Refusal::Bounds);
+    }
+    if lent != 16 {
+        return Err(Refusal::Length);
+    }
+    let named = slot <= 15;
+    if !named {
+        return Err(Refusal::Place);
+    }
+    Ok(own)
 }
 
 // What one slot has used, of the tally and the account that the caller lends: its entry, or refusals 5, 1 and 2, in that order.
-pub fn share(slot: u8, tally: Tally, account: &[Entry]) -> Share
-    ensures { share_answer result ≡ share_of slot tally account.now }
+pub fn share(slot: u8, tally: Tally, account: &[Entry]) -> Result<Entry, Refusal>
+    ensures { answered zero_entry result ≡ share_of slot tally account.now }
 {
-    let entries = entries::gather(account);
-    share_in(slot, tally, entries, account.len())
+    share_in(slot, tally, entries::gather(account), account.len())
 }

@@ -2,28 +2,28 @@
 use Prim.Native.Nat.{ℕ, ◌+◌, ◌-◌, ◌*◌, ◌%◌, ◌≤◌, ◌<◌, min}
 use mathlib.Core.Bool.{Bool, true, false, cond, ◌&&◌}
 use mathlib.Core.List.{List, [], ◌++◌, append_assoc}
-use mathlib.Core.Path.{◌≡◌, sym, ap, subst, ◌∙◌}
+use mathlib.Core.Path.{◌≡◌, refl, sym, ap, subst, ◌∙◌}
 use native.Mathlib.Omega.{arith}
 use lib.ListN.{length, take, drop, replicate, length-append, length-drop, take-append-drop}
 use lib.Seq.{paste, take-paste, length-take-le, take-length, take_all}
 use lib.Dec.{ltb}
 use borrow.Author.Tests.{ltb-true, ltb-false}
-use Rattle.basics.specs.Answers.{Answer}
-use Rattle.basics.specs.Numbers.{lawful_limit}
+use Rattle.std.specs.Prelude.{Result, Ok, Err}
+use Rattle.std.specs.Result.{result_unwrap_or}
+use Rattle.basics.specs.Answers.{Answer, answered}
+use Rattle.basics.specs.declared.refusal.Refusal.{Refusal}
 use Rattle.basics.proofs.Bools.{by-test, cond-true, cond-false, and_both}
 use Rattle.rules.specs.declared.Judge.{Judge}
 use Rattle.rules.specs.declared.Tally.{Tally}
 use Rattle.rules.specs.declared.Progress.{Progress}
 use Rattle.rules.specs.declared.Outcome.{Outcome}
 use Rattle.rules.specs.Bounds.{SoundJudge, SoundTally}
-use Rattle.rules.specs.Verdict.{most_records, verdict_of, outcome_in, outcome_of, no_judge, fresh_answer, fresh_of as judgeFresh}
-use Rattle.rules.specs.State.{zero_tally}
+use Rattle.rules.specs.Verdict.{most_records, verdict_of, outcome_in, outcome_of}
 use Rattle.judge.proofs.Runs.{rest_is}
 use Rattle.feeding.specs.declared.Stop.{Stop}
-use Rattle.feeding.specs.declared.Stop.TheVariants.{Going}
 use Rattle.feeding.specs.declared.Stream.{Stream}
 use Rattle.feeding.specs.Input.{whole_in}
-use Rattle.feeding.specs.State.{goes, padded, taken_in, stop_of, kept_of, state_with, gone_on, fresh_stream, no_stream, fresh_of, feed_of}
+use Rattle.feeding.specs.State.{goes, padded, stream_bounds, taken_in, stop_of, kept_of, gone_on, feed_of, fed_of}
 use Rattle.feeding.proofs.GoOn.{judged_of, outcome-taken, padded_is, kept_is, behind_in, feed_ended, feed_more, feed_whole, gone_sound}
 
 -- the part of a list from a place on
@@ -134,3 +134,12 @@ took_in s piece r g e = e ∙ sym (cond-true _ _ g)
 
 pub took_whole : (s : Stream) (piece : List ℕ) (r : Stream) → goes s.stop ≡ true → s.held ≡ 0 → r ≡ gone_on s.judge s.tally piece → r ≡ feed_of s piece
 took_whole s piece r g z e = took_in s piece r g (e ∙ ap (λ (k : ℕ). gone_on s.judge s.tally (take k s.torn ++ piece)) (sym z))
+
+-- the next state of a caller whose state is within the bounds, `unwrap_or` giving his own where it isn't
+answer_or : {A : Type 0} (back : A) (r : Result A Refusal) → result_unwrap_or r back ≡ (answered back r).value
+answer_or back (Ok v) = refl
+answer_or back (Err r) = refl
+
+pub fed_or : (s : Stream) (piece : List ℕ) (r : Result Stream Refusal) (next : Stream) → answered s r ≡ fed_of s piece → next ≡ result_unwrap_or r s → stream_bounds s ≡ true → next ≡ feed_of s piece
+unfolding fed_of
+fed_or s piece r next e ne b = ne ∙ answer_or s r ∙ ap (λ (a : Answer Stream). a.value) (e ∙ cond-true _ _ b)

@@ -1,6 +1,7 @@
 -- Document 02, wish 3: "Refusals: 1 for an account not of sixteen entries; 2 for the slot; 5 for an entry with more STARTs than the tally, or more busy
 -- cycles than span plus its STARTs." What a call that judges with an account leaves, and what a query for one slot answers.
-use Rattle.std.specs.Prelude.{ℕ, ◌+◌, ◌-◌, ◌/◌, ◌%◌, Bool, true, cond, ◌&&◌, List, [], ◌∷◌, length, take, get_or, eqb, leb}
+use Rattle.std.specs.Prelude.{ℕ, ◌+◌, ◌-◌, ◌/◌, ◌%◌, Bool, cond, ◌&&◌, List, length, take, get_or, eqb, leb}
+use Rattle.std.specs.List.{list_all}
 use Rattle.basics.specs.Order.{unless}
 use Rattle.basics.specs.Answers.{Answer, accepted, refused}
 use Rattle.entries.specs.declared.Entry.{Entry}
@@ -22,8 +23,7 @@ abbrev pub entry_bounds : Tally → Entry → Bool
 entry_bounds t e = leb e.starts t.starts && leb e.busy (t.span + e.starts)
 
 abbrev pub entries_bounds : Tally → List Entry → Bool
-entries_bounds t [] = true
-entries_bounds t (e ∷ es) = entry_bounds t e && entries_bounds t es
+entries_bounds t es = list_all (entry_bounds t) es
 
 -- ---- judging with an account
 -- the refusal of a call with so many bytes and an account of `lent` entries, of which `entries` are looked at: 5, of the judge, of the tally or of one

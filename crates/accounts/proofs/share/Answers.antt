@@ -8,5 +8,5 @@ use Rattle.accounts.proofs.share.Goals as goal
 pub returns : goal.returns
 returns c =
     c.share_in.ensures
-    ∙ ap (λ (es : List Entry). share_for c.args.slot c.args.tally es (length c.args.account.now)) c.gather-entries.ensures
+    ∙ ap (λ (es : List Entry). share_for c.args.slot c.args.tally es (length c.args.account.now)) c.gather.ensures
     ∙ share_lent c.args.slot c.args.tally c.args.account.now

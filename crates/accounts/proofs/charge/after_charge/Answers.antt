@@ -7,4 +7,4 @@ pub returns-then-shown : goal.returns-then-shown
 returns-then-shown c = sym (cond-true _ _ c.if-shown.true)
 
 pub returns : goal.returns
-returns c = rw c.cycles.ensures (sym (cond-false _ _ c.if-shown.false))
+returns c = sym (cond-false _ _ c.if-shown.false)

@@ -31,9 +31,6 @@ added-requires c = let few = c.loop-i.invariant.few in
     let w = c.loop-i.invariant.room c.slot_of-slot.result in
     (omega arith, omega arith)
 
-pub overflow_add-i : goal.overflow_add-i
-overflow_add-i c = let few = c.loop-i.invariant.few in omega arith
-
 -- a record that was charged, or one that changes no entry
 pub loop-i-preserved : goal.loop-i-preserved
 loop-i-preserved c =
@@ -42,7 +39,7 @@ loop-i-preserved c =
     let shown = c.shown_in-shown.ensures ∙ shown_at bytes c.loop-i.i in
     elim c.if-shown.branch [
       | then-shown w ↦ charged-one bytes _ _ _ c.loop-i.account c.loop-i.state c.loop-i.i c.loop-i.invariant c.shown_in-shown.result shown lt w.slot_of-slot.result w.busy_of-busy.result w.added.result c.if-shown.account c.if-shown.state w.if-shown.true w.slot_of-slot.ensures w.busy_of-busy.ensures w.added.ensures w.account-is (w.state-is ∙ w.after_charge-state.ensures)
-      | else-shown w ↦ idled_one bytes _ _ _ c.loop-i.account c.loop-i.state c.loop-i.i c.loop-i.invariant c.shown_in-shown.result shown lt c.if-shown.account c.if-shown.state w.if-shown.false w.account-is (w.state-is ∙ w.after_idle-state.ensures)
+      | else-shown w ↦ idled_one bytes _ _ _ c.loop-i.account c.loop-i.state c.loop-i.i c.loop-i.invariant c.shown_in-shown.result shown lt c.if-shown.account c.if-shown.state w.if-shown.false w.account-is w.state-is
     ]
 
 pub returns : goal.returns

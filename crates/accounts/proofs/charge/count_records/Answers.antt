@@ -11,12 +11,12 @@ returns-then-n-eq0 c = let a = c.args in
     let none : 0 ≡ a.n = omega arith in
     ap (λ (k : ℕ). account_of a.judge a.entries (records_in k a.bytes.now)) none
 
-pub watch_before-watch-requires : goal.watch_before-watch-requires
-watch_before-watch-requires c = let fits = c.requires.fits in omega arith
+pub watch_before-requires : goal.watch_before-requires
+watch_before-requires c = let fits = c.requires.fits in omega arith
 
-pub charge_on-end-requires : goal.charge_on-end-requires
-charge_on-end-requires c = roomy _ _ _ _ _ _ c.requires c.watch_before-watch.ensures
+pub charge_on-requires : goal.charge_on-requires
+charge_on-requires c = roomy _ _ _ _ _ _ c.requires c.watch_before.ensures
 
 pub returns : goal.returns
 returns c = let a = c.args in
-    ap (λ (x : Charged). x.entries) c.charge_on-end.ensures ∙ counted-all a.bytes.now a.n a.judge a.entries _ c.requires.sound (omega arith) c.watch_before-watch.ensures c.requires.passes
+    ap (λ (x : Charged). x.entries) c.charge_on.ensures ∙ counted-all a.bytes.now a.n a.judge a.entries _ c.requires.sound (omega arith) c.watch_before.ensures c.requires.passes

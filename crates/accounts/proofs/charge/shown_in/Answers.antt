@@ -11,4 +11,4 @@ overflow_add-result c = omega (arith, (c.type_inv.part 4).fits)
 
 pub returns : goal.returns
 returns c = let given = c.type_inv.part in
-    shown-bytes c.args.part.now c.requires (λ k. (given k).fits) c.stamp_of-stamp.result c.stamp_of-stamp.ensures
+    shown-bytes c.args.part.now c.requires (λ k. (given k).fits) c.from_be_bytes-stamp.result c.from_be_bytes-stamp.ensures

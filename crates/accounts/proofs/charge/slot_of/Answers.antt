@@ -4,4 +4,4 @@ use Rattle.accounts.proofs.charge.slot_of.Goals as goal
 
 pub returns : goal.returns
 unfolding slot_by
-returns c = simp (c.pick.ensures, c.cycles.ensures)
+returns c = simp c.pick.ensures

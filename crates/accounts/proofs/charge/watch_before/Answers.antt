@@ -5,4 +5,4 @@ use Rattle.accounts.specs.Watch.{watch_of}
 use Rattle.accounts.proofs.charge.watch_before.Goals as goal
 
 pub returns : goal.returns
-returns c = c.watch_of.ensures ∙ ap (λ (s : Shown). watch_of c.args.judge s.stamp) c.shown_in-first.ensures
+returns c = c.watch_of.ensures ∙ ap (λ (s : Shown). watch_of c.args.judge s.stamp) c.shown_in.ensures

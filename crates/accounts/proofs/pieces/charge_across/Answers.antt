@@ -7,58 +7,58 @@ use Rattle.accounts.proofs.Crossing.{lacks, fills, roomy_front, roomy_rest, acro
 use Rattle.accounts.proofs.pieces.charge_across.Goals as goal
 
 pub slice_bounds-filled-end : goal.slice_bounds-filled-end
-slice_bounds-filled-end c = let a = c.args in
+slice_bounds-filled-end c = let a = c.args.ledger in
     let part = c.requires.0 in
     let h = c.requires.1 in
-    let sixteen : length a.torn ≡ 16 = search (rules, c.well_formed.1.1.0) in
-    let some : 1 ≤ a.n = omega arith in
-    let l = lacks a.torn a.piece.now a.held a.n a.judge a.entries sixteen part h some in
-    let e = length-take-le (16 - a.held) a.piece.now l in
+    let sixteen : length a.stream.torn ≡ 16 = search rules in
+    let some : 1 ≤ c.args.n = omega arith in
+    let l = lacks a.stream.torn c.args.piece.now a.stream.held c.args.n a.stream.judge a.entries sixteen part h some in
+    let e = length-take-le (16 - a.stream.held) c.args.piece.now l in
     omega arith
 
 pub filled-front-requires : goal.filled-front-requires
-filled-front-requires c = let a = c.args in
+filled-front-requires c = let a = c.args.ledger in
     let part = c.requires.0 in
     let h = c.requires.1 in
-    let sixteen : length a.torn ≡ 16 = search (rules, c.well_formed.1.1.0) in
-    let some : 1 ≤ a.n = omega arith in
-    fills a.torn a.piece.now a.held a.n a.judge a.entries sixteen part h some
+    let sixteen : length a.stream.torn ≡ 16 = search rules in
+    let some : 1 ≤ c.args.n = omega arith in
+    fills a.stream.torn c.args.piece.now a.stream.held c.args.n a.stream.judge a.entries sixteen part h some
 
 pub charge_on-first-requires : goal.charge_on-first-requires
-charge_on-first-requires c = let a = c.args in
+charge_on-first-requires c = let a = c.args.ledger in
     let part = c.requires.0 in
     let h = c.requires.1 in
-    let sixteen : length a.torn ≡ 16 = search (rules, c.well_formed.1.1.0) in
-    let some : 1 ≤ a.n = omega arith in
+    let sixteen : length a.stream.torn ≡ 16 = search rules in
+    let some : 1 ≤ c.args.n = omega arith in
     let put = c.filled-front.ensures in
     subst (λ (x : List ℕ). Roomy x 1 c.watch_before-watch.result a.entries) (sym put)
-    (roomy_front a.torn a.piece.now a.held a.n a.judge a.entries sixteen part h some c.watch_before-watch.result (c.watch_before-watch.ensures ∙ ap (λ (x : List ℕ). watch_of a.judge (record_in (take 16 x)).stamp) put))
+    (roomy_front a.stream.torn c.args.piece.now a.stream.held c.args.n a.stream.judge a.entries sixteen part h some c.watch_before-watch.result (c.watch_before-watch.ensures ∙ ap (λ (x : List ℕ). watch_of a.stream.judge (record_in (take 16 x)).stamp) put))
 
 pub slice_bounds-charge_on-count : goal.slice_bounds-charge_on-count
-slice_bounds-charge_on-count c = let a = c.args in
+slice_bounds-charge_on-count c = let a = c.args.ledger in
     let part = c.requires.0 in
     let h = c.requires.1 in
-    let sixteen : length a.torn ≡ 16 = search (rules, c.well_formed.1.1.0) in
-    let some : 1 ≤ a.n = omega arith in
-    let l = lacks a.torn a.piece.now a.held a.n a.judge a.entries sixteen part h some in
+    let sixteen : length a.stream.torn ≡ 16 = search rules in
+    let some : 1 ≤ c.args.n = omega arith in
+    let l = lacks a.stream.torn c.args.piece.now a.stream.held c.args.n a.stream.judge a.entries sixteen part h some in
     omega arith
 
-pub charge_on-end-requires : goal.charge_on-end-requires
-charge_on-end-requires c = let a = c.args in
+pub charge_on-requires : goal.charge_on-requires
+charge_on-requires c = let a = c.args.ledger in
     let part = c.requires.0 in
     let h = c.requires.1 in
-    let sixteen : length a.torn ≡ 16 = search (rules, c.well_formed.1.1.0) in
-    let some : 1 ≤ a.n = omega arith in
-    let long : length a.entries ≡ 16 = search (rules, c.well_formed.1.0) in
+    let sixteen : length a.stream.torn ≡ 16 = search rules in
+    let some : 1 ≤ c.args.n = omega arith in
+    let long : length a.entries ≡ 16 = search rules in
     let put = c.filled-front.ensures in
-    roomy_rest a.torn a.piece.now a.held a.n a.judge a.entries sixteen part h some c.watch_before-watch.result (c.watch_before-watch.ensures ∙ ap (λ (x : List ℕ). watch_of a.judge (record_in (take 16 x)).stamp) put) long c.charge_on-first.result (c.charge_on-first.ensures ∙ ap (λ (x : List ℕ). charged_by c.watch_before-watch.result a.entries (records_in 1 x)) put)
+    roomy_rest a.stream.torn c.args.piece.now a.stream.held c.args.n a.stream.judge a.entries sixteen part h some c.watch_before-watch.result (c.watch_before-watch.ensures ∙ ap (λ (x : List ℕ). watch_of a.stream.judge (record_in (take 16 x)).stamp) put) long c.charge_on-first.result (c.charge_on-first.ensures ∙ ap (λ (x : List ℕ). charged_by c.watch_before-watch.result a.entries (records_in 1 x)) put)
 
 pub returns : goal.returns
-returns c = let a = c.args in
+returns c = let a = c.args.ledger in
     let part = c.requires.0 in
     let h = c.requires.1 in
-    let sixteen : length a.torn ≡ 16 = search (rules, c.well_formed.1.1.0) in
-    let some : 1 ≤ a.n = omega arith in
-    let long : length a.entries ≡ 16 = search (rules, c.well_formed.1.0) in
+    let sixteen : length a.stream.torn ≡ 16 = search rules in
+    let some : 1 ≤ c.args.n = omega arith in
+    let long : length a.entries ≡ 16 = search rules in
     let put = c.filled-front.ensures in
-    across a.torn a.piece.now a.held a.n a.judge a.entries sixteen part h some c.watch_before-watch.result (c.watch_before-watch.ensures ∙ ap (λ (x : List ℕ). watch_of a.judge (record_in (take 16 x)).stamp) put) long c.charge_on-first.result (c.charge_on-first.ensures ∙ ap (λ (x : List ℕ). charged_by c.watch_before-watch.result a.entries (records_in 1 x)) put) (omega arith) c.charge_on-end.result c.charge_on-end.ensures
+    across a.stream.torn c.args.piece.now a.stream.held c.args.n a.stream.judge a.entries sixteen part h some c.watch_before-watch.result (c.watch_before-watch.ensures ∙ ap (λ (x : List ℕ). watch_of a.stream.judge (record_in (take 16 x)).stamp) put) long c.charge_on-first.result (c.charge_on-first.ensures ∙ ap (λ (x : List ℕ). charged_by c.watch_before-watch.result a.entries (records_in 1 x)) put) (omega arith) c.charge_on.result c.charge_on.ensures

@@ -9,25 +9,25 @@ use Rattle.accounts.proofs.pieces.take_in.Goals as goal
 pub overflow_sub-passed : goal.overflow_sub-passed
 overflow_sub-passed c = let l = c.args.ledger in
     let piece = c.args.piece.now in
-    no_fewer l piece c.requires c.feed-fed.result c.feed-fed.ensures
+    no_fewer l piece c.requires c.feed.result c.feed.ensures c.unwrap_or-next.result c.unwrap_or-next.ensures
 
-pub count_records-account-requires : goal.count_records-account-requires
-count_records-account-requires c = let l = c.args.ledger in
+pub count_records-entries-requires : goal.count_records-entries-requires
+count_records-entries-requires c = let l = c.args.ledger in
     let piece = c.args.piece.now in
-    subst (λ (x : List ℕ). Chargeable x (c.feed-fed.result.stream.tally.records - l.stream.tally.records) l.stream.judge l.entries) (whole_piece l.stream piece c.if-held-eq0.true) (may_charge l piece c.requires c.feed-fed.result c.feed-fed.ensures)
+    subst (λ (x : List ℕ). Chargeable x (c.unwrap_or-next.result.tally.records - l.stream.tally.records) l.stream.judge l.entries) (whole_piece l.stream piece c.if-before-eq0.true) (may_charge l piece c.requires c.feed.result c.feed.ensures c.unwrap_or-next.result c.unwrap_or-next.ensures)
 
-pub returns-then-held-eq0 : goal.returns-then-held-eq0
-returns-then-held-eq0 c = let l = c.args.ledger in
+pub returns-then-before-eq0 : goal.returns-then-before-eq0
+returns-then-before-eq0 c = let l = c.args.ledger in
     let piece = c.args.piece.now in
-    posts l piece c.requires c.feed-fed.result c.feed-fed.ensures c.count_records-account.result
-    (c.count_records-account.ensures ∙ ap (λ (x : List ℕ). account_of l.stream.judge l.entries (records_in (c.feed-fed.result.stream.tally.records - l.stream.tally.records) x)) (sym (whole_piece l.stream piece c.if-held-eq0.true)))
+    posts l piece c.requires c.feed.result c.feed.ensures c.unwrap_or-next.result c.unwrap_or-next.ensures c.count_records-entries.result
+    (c.count_records-entries.ensures ∙ ap (λ (x : List ℕ). account_of l.stream.judge l.entries (records_in (c.unwrap_or-next.result.tally.records - l.stream.tally.records) x)) (sym (whole_piece l.stream piece c.if-before-eq0.true)))
 
-pub charge_across-account-requires : goal.charge_across-account-requires
-charge_across-account-requires c = let l = c.args.ledger in
+pub charge_across-entries-requires : goal.charge_across-entries-requires
+charge_across-entries-requires c = let l = c.args.ledger in
     let piece = c.args.piece.now in
-    ((sound l piece c.requires).1.1.1, may_charge l piece c.requires c.feed-fed.result c.feed-fed.ensures)
+    ((sound l piece c.requires).1.1.1, may_charge l piece c.requires c.feed.result c.feed.ensures c.unwrap_or-next.result c.unwrap_or-next.ensures)
 
 pub returns : goal.returns
 returns c = let l = c.args.ledger in
     let piece = c.args.piece.now in
-    posts l piece c.requires c.feed-fed.result c.feed-fed.ensures c.charge_across-account.result c.charge_across-account.ensures
+    posts l piece c.requires c.feed.result c.feed.ensures c.unwrap_or-next.result c.unwrap_or-next.ensures c.charge_across-entries.result c.charge_across-entries.ensures
