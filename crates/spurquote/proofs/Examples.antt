@@ -1,27 +1,27 @@
 -- Words and lines as a reader would write them. Assumes nothing.
 use mathlib.Core.List.{[]}
 use mathlib.Core.Path.{◌≡◌, refl}
+use Rattle.std.specs.Prelude.{Some, None}
 use Rattle.text.specs.Decimal.{spelled, decimal_of}
 use Rattle.text.specs.Words.{word}
 use Rattle.text.specs.Numbers.{capped, is_number, number_of}
 use Rattle.printed.specs.Lines.{refused_line}
 use Rattle.figures.specs.Times.{seconds_of}
 use Rattle.quote.specs.Quotes.{worst_of, quote_of}
-use Rattle.spurquote.specs.declared.Asked.TheVariants.{Of, NotTwoNumbers}
 use Rattle.spurquote.specs.Words.{asked_of}
 use Rattle.spurquote.specs.Pages.{worst_line, answer_line, quote_line}
 
 -- ---- words
-words-read : asked_of 3 (word "03") (word "16") ≡ Of 3 16
+words-read : asked_of 3 (word "03") (word "16") ≡ Some (3, 16)
 unfolding asked_of number_of is_number capped
 words-read = refl
 
-limit-missing : asked_of 2 (word "3") [] ≡ NotTwoNumbers
+limit-missing : asked_of 2 (word "3") [] ≡ None
 unfolding asked_of
 limit-missing = refl
 
 -- a slot and a limit that no rack has are still two numbers, which are refused
-large_read : asked_of 3 (word "99999999999") (word "0") ≡ Of 4294967296 0
+large_read : asked_of 3 (word "99999999999") (word "0") ≡ Some (4294967296, 0)
 unfolding asked_of number_of is_number capped
 large_read = refl
 

@@ -1,3 +1,2 @@
-pub mod Wording
 pub mod Printing
 pub mod Examples

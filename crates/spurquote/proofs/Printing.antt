@@ -1,32 +1,30 @@
 -- The text on the page is the line of the two numbers. Assumes nothing.
 use Prim.Native.Nat.{ℕ, ◌/◌, ◌^◌, ◌<◌, ◌≤◌, min}
-use mathlib.Core.List.{List}
-use mathlib.Core.Path.{◌≡◌, refl, sym, ap, subst, ◌∙◌}
+use mathlib.Core.Bool.{false}
+use mathlib.Core.List.{List, ◌++◌}
+use mathlib.Core.Path.{◌≡◌, refl, sym, ap, ◌∙◌}
 use native.Mathlib.Omega.{arith}
 use native.Mathlib.Decide.{dec_lt}
-use lib.ListN.{length, length-append}
+use lib.ListN.{length, drop, length-append}
 use lib.Dec.{eqb}
+use lib.Seq.{take_at}
+use Rattle.std.specs.Prelude.{Option, Some, None}
 use Rattle.basics.specs.Numbers.{lawful_limit}
-use Rattle.basics.specs.Answers.{Answer}
-use Rattle.basics.proofs.Bools.{choice, by-test}
+use Rattle.basics.specs.Answers.{Answer, accepted, refused, refusal_number}
+use Rattle.basics.specs.declared.refusal.Refusal.{Refusal}
+use Rattle.basics.specs.declared.refusal.Refusal.TheVariants as refusals
+use Rattle.basics.proofs.Bools.{choice, by-test, cond-false}
 use Rattle.text.specs.declared.Place.{Place}
-use Rattle.text.specs.Places.{front}
-use Rattle.printed.specs.Adding.{Adds}
+use Rattle.text.specs.Places.{front, moved_by, put_at}
+use Rattle.text.proofs.PlaceLaws.{put_length, put_front, moved_front}
 use Rattle.printed.specs.Lines.{refused_line}
-use Rattle.printed.proofs.AddingLaws.{adds_as, adds_page}
 use Rattle.printed.proofs.LineLaws.{most, refusal-most}
 use Rattle.figures.specs.Times.{seconds_of}
 use Rattle.figures.proofs.DigitLaws.{digits-length}
 use Rattle.quote.specs.declared.Worst.{Worst}
-use Rattle.quote.specs.declared.Quote.{Quote}
-use Rattle.quote.specs.declared.Quote.TheVariants.{Is, BadSlot, BadLimit}
-use Rattle.quote.specs.Quotes.{quote_of, quote_answer}
+use Rattle.quote.specs.Quotes.{no_worst, quote_of}
 use Rattle.quote.proofs.Laws.{bad_slot, bad_limit}
 use Rattle.reading.proofs.Narrow.{narrow_same, narrow_lawful}
-use Rattle.spurquote.specs.declared.Asked.{Asked}
-use Rattle.spurquote.specs.declared.Asked.TheVariants.{Of, NotTwoNumbers}
-use Rattle.spurquote.specs.declared.Said.{Said}
-use Rattle.spurquote.specs.declared.Said.TheVariants.{Line, BadWords}
 use Rattle.spurquote.specs.Pages.{worst_line, answer_line, quote_line, Prints}
 
 -- ---- how long a line is at most
@@ -39,7 +37,7 @@ unfolding worst_line
 worst_most slot limit w =
     simp length-append (omega (arith, most slot, most limit, most w.others, most w.cycles, seconds_most w.cycles))
 
-line-most : (slot limit : ℕ) → length (quote_line slot limit) ≤ 256
+pub line-most : (slot limit : ℕ) → length (quote_line slot limit) ≤ 256
 unfolding answer_line
 line-most slot limit =
     let a : Answer Worst = quote_of slot limit in
@@ -58,41 +56,45 @@ quote_narrow slot limit s l se le = elim (dec_lt slot 16) [ yes h ↦ small h | 
         (λ e. sym (bad_limit slot l h e) ∙ bad_limit slot limit h (sym (narrow_lawful limit l le) ∙ e))
 
 -- ---- the line of each answer
-module _ (slot limit s l : ℕ) (se : s ≡ min slot 255) (le : l ≡ min limit 255) (r : Quote) (e : quote_answer r ≡ quote_of s l) where
-  line_of : (case : Quote) → r ≡ case → quote_line slot limit ≡ answer_line slot limit (quote_answer case)
-  line_of case is = ap (answer_line slot limit) (sym (quote_narrow slot limit s l se le) ∙ sym e ∙ ap quote_answer is)
+some_number : (r : Refusal) → eqb (refusal_number r) 0 ≡ false
+some_number refusals.Length = refl
+some_number refusals.Place = refl
+some_number refusals.Value = refl
+some_number refusals.Code = refl
+some_number refusals.Bounds = refl
+some_number refusals.Room = refl
+some_number refusals.Incoherent = refl
+some_number refusals.TooMany = refl
+some_number refusals.Marks = refl
 
-  pub worst_line_lem : (w : Worst) → r ≡ Is w → quote_line slot limit ≡ worst_line slot limit w
+module _ (slot limit s l : ℕ) (se : s ≡ min slot 255) (le : l ≡ min limit 255) where
+  pub worst_told : (w : Worst) → accepted w ≡ quote_of s l → worst_line slot limit w ≡ quote_line slot limit
   unfolding answer_line
-  worst_line_lem w is = line_of (Is w) is
+  worst_told w e = ap (answer_line slot limit) (e ∙ quote_narrow slot limit s l se le)
 
-  pub slot-line : r ≡ BadSlot → quote_line slot limit ≡ refused_line 2
+  pub refusal_told : (r : Refusal) → refused (refusal_number r) no_worst ≡ quote_of s l → refused_line (refusal_number r) ≡ quote_line slot limit
   unfolding answer_line
-  slot-line is = line_of BadSlot is
-
-  pub limit-line : r ≡ BadLimit → quote_line slot limit ≡ refused_line 3
-  unfolding answer_line
-  limit-line is = line_of BadLimit is
-
--- put to the front of a page
-pub adds-line : {page after : List ℕ} {p q : Place} {bytes line : List ℕ} → p ≡ front → line ≡ bytes → Adds page p after q bytes → Adds page front after q line
-adds-line {page} {after} {p} {q} {bytes} pe e f = adds_as e (subst (λ (x : Place). Adds page x after q bytes) pe f)
+  refusal_told r e = sym (cond-false _ _ (some_number r)) ∙ ap (answer_line slot limit) (e ∙ quote_narrow slot limit s l se le)
 
 -- ---- what is printed
-pub prints_line : (given a : Asked) (slot limit : ℕ) (page after : List ℕ) (q : Place) → length page ≡ 256 → a ≡ given → a ≡ Of slot limit → Adds page front after q (quote_line slot limit)
-    → Prints given after (Line q.at)
+-- a text that stands whole at a buffer's front
+pub prints : (given : Option (ℕ × ℕ)) (slot limit : ℕ) (buffer next : List ℕ) (q : Place) → given ≡ Some (slot, limit) → length buffer ≡ 256
+    → (q ≡ moved_by (length buffer) front (length (quote_line slot limit))) × (next ≡ put_at buffer front (quote_line slot limit))
+    → Prints given next (Some q.at)
 unfolding Prints
-prints_line given a slot limit page after q size ge e f =
-    let made = adds_page refl f (let h = line-most slot limit in omega arith) in
-    subst (λ (x : Asked). Prints x after (Line q.at)) (sym e ∙ ge) (made.within, made.text)
+prints given slot limit buffer next q a size e =
+    let line = quote_line slot limit in
+    let within : length line ≤ length buffer = omega (arith, line-most slot limit) in
+    let at : q.at ≡ length line = ap (λ (p : Place). p.at) (e.0 ∙ moved_front buffer line within) in
+    let whole : next ≡ line ++ drop (length line) buffer = e.1 ∙ put_front buffer line within in
+    let long : length next ≡ length buffer = ap length e.1 ∙ put_length buffer front line in
+    rw a (omega arith, rw (at, whole) (take_at line (drop (length line) buffer) (length line) refl))
 
-pub prints_none : (given a : Asked) (page : List ℕ) → a ≡ given → a ≡ NotTwoNumbers → Prints given page BadWords
+pub prints_none : (given : Option (ℕ × ℕ)) (page : List ℕ) (said : Option ℕ) → given ≡ None → said ≡ None → Prints given page said
 unfolding Prints
-prints_none given a page ge e = subst (λ (x : Asked). Prints x page BadWords) (sym e ∙ ge) tt
+prints_none given page said a e = rw (a, e) tt
 
-pub line-within : (given : Asked) (page : List ℕ) (said : Said) (n : ℕ) → Prints given page said → said ≡ Line n → n ≤ length page
+pub line-within : (given : Option (ℕ × ℕ)) (page : List ℕ) (n : ℕ) → Prints given page (Some n) → n ≤ length page
 unfolding Prints
-line-within (Of slot limit) page (Line m) n h e = let within = h.0 in let same : m ≡ n = cc in omega arith
-line-within (Of slot limit) page BadWords n h e = absurd h
-line-within NotTwoNumbers page (Line m) n h e = absurd h
-line-within NotTwoNumbers page BadWords n h e = let z : ◌≡◌ {A = ℕ} 0 1 = cc in absurd (omega arith)
+line-within (Some asked) page n h = h.0
+line-within None page n h = absurd h

@@ -4,114 +4,81 @@
 #![tactic(auto)]
 
 ghost use Rattle.std.specs.Prelude.{◌≡◌, length};
-ghost use Rattle.printed.specs.Adding.{Adds};
-ghost use Rattle.text.specs.Places.{front};
-ghost use Rattle.spurquote.specs.Words.{both_of, asked_of};
+ghost use Rattle.text.specs.Pages.{grown};
+ghost use Rattle.spurquote.specs.Words.{asked_of};
 ghost use Rattle.spurquote.specs.Pages.{worst_line, quote_line, Prints};
 
-use quote::{Quote, Worst};
-use text::{Number, Place};
+use quote::Worst;
+use text::{Page, Place};
+
+// Enough for the line, however many digits the numbers have.
+const PAGE: usize = 256;
 
 // ---- the words
 
-// What the program's words ask for: a slot and a hold limit.
-#[derive(Clone, Copy)]
-enum Asked {
-    Of(u64, u64),
-    NotTwoNumbers,
-}
-
-fn both(slot: Number, limit: Number) -> Asked
-    ensures { result ≡ both_of slot limit }
-{
-    match slot {
-        Number::Is(s) => match limit {
-            Number::Is(l) => Asked::Of(s, l),
-            Number::NotANumber => Asked::NotTwoNumbers,
-        },
-        Number::NotANumber => Asked::NotTwoNumbers,
-    }
-}
-
-// So many words were given, the program's own name among them.
+// The slot and the hold limit that the program's words ask for, where so many were given, the program's own name among them.
 #[tactic(auto, unfolding(crate::specs::Words::asked_of))]
-fn asked_for(words: usize, slot: &[u8], limit: &[u8]) -> Asked
+fn asked_for(words: usize, slot: &[u8], limit: &[u8]) -> Option<(u64, u64)>
     ensures { result ≡ asked_of words slot.now limit.now }
 {
-    if words == 3 {
-        return both(text::number_in(slot), text::number_in(limit));
+    if words != 3 {
+        return None;
     }
-    Asked::NotTwoNumbers
+    text::number_in(slot).zip(text::number_in(limit))
 }
 
 // ---- the line
 
-fn put_worst(page: &mut [u8], place: Place, slot: u64, limit: u64, worst: Worst) -> Place
-    ensures { Adds page.old place page.new result (worst_line slot limit worst) }
+#[tactic(auto, using(text::proofs::PageLaws::grown_then), unfolding(crate::specs::Pages::worst_line))]
+fn put_worst<const N: usize>(page: &mut Page<N>, slot: u64, limit: u64, worst: Worst)
+    ensures { page.new ≡ grown N page.old (worst_line slot limit worst) }
 {
-    let cycles = worst.cycles as u64;
-    let at = text::put_named(page, place, b"slot ", slot);
-    let under = text::put_named(page, at, b" limit ", limit);
-    let others = text::put_named(page, under, b" others ", worst.others as u64);
-    let within = text::put_named(page, others, b" cycles ", cycles);
-    let time = text::put_word(page, within, b" seconds ");
-    let seconds = figures::put_seconds(page, time, cycles);
-    text::put_word(page, seconds, b"\n")
+    let cycles = u64::from(worst.cycles);
+    page.put_named(b"slot ", slot);
+    page.put_named(b" limit ", limit);
+    page.put_named(b" others ", u64::from(worst.others));
+    page.put_named(b" cycles ", cycles);
+    page.put(b" seconds ");
+    figures::add_seconds(page, cycles);
+    page.put(b"\n");
 }
 
-fn put_quote(page: &mut [u8], slot: u64, limit: u64) -> Place
-    ensures { Adds page.old front page.new result (quote_line slot limit) }
+fn put_quote<const N: usize>(page: &mut Page<N>, slot: u64, limit: u64)
+    ensures { page.new ≡ grown N page.old (quote_line slot limit) }
 {
-    let start = Place::front();
     match quote::worst_wait(reading::narrowed(slot), reading::narrowed(limit)) {
-        Quote::Is(worst) => put_worst(page, start, slot, limit, worst),
-        Quote::BadSlot => printed::put_refused(page, start, 2),
-        Quote::BadLimit => printed::put_refused(page, start, 3),
+        Ok(worst) => put_worst(page, slot, limit, worst),
+        Err(refusal) => printed::add_refused(page, refusal.number()),
     }
 }
 
-// What there is to say: the line, so many bytes at the page's front, or that the words aren't right.
-#[derive(Clone, Copy)]
-enum Said {
-    Line(usize),
-    BadWords,
-}
-
-// Makes the whole text for the program's words on a page that has room for it.
-fn tell(words: usize, slot: &[u8], limit: &[u8], page: &mut [u8]) -> Said
-    requires { length page.old ≡ 256 }
-    ensures { Prints (asked_of words slot.now limit.now) page.new result }
+// Makes the whole text for the program's words at the front of a buffer that has room for it: so many bytes, or none where the words aren't right.
+fn tell(words: usize, slot: &[u8], limit: &[u8], buffer: &mut [u8]) -> Option<usize>
+    requires { length buffer.old ≡ 256 }
+    ensures { Prints (asked_of words slot.now limit.now) buffer.new result }
 {
-    match asked_for(words, slot, limit) {
-        Asked::Of(s, l) => {
-            let line = put_quote(page, s, l);
-            Said::Line(line.at)
-        }
-        Asked::NotTwoNumbers => Said::BadWords,
-    }
+    let (slot, limit) = asked_for(words, slot, limit)?;
+    let mut page: Page<PAGE> = Page::new();
+    put_quote(&mut page, slot, limit);
+    Some(page.put_into(buffer, Place::front()).at)
 }
 
 // ---- the program
 
-fn complain(line: &[u8]) {
-    io::write_all(reading::STDERR, line);
-}
-
-fn print(page: &[u8]) {
-    if !io::write_all(reading::STDOUT, page) {
-        complain(b"spurquote: standard output can't be written\n");
-    }
-}
-
-fn say(words: usize, slot: &[u8], limit: &[u8]) {
-    let mut page = [0u8; 256];
-    let said = tell(words, slot, limit, &mut page);
-    match said {
-        Said::Line(n) => print(&page[..n]),
-        Said::BadWords => complain(
+fn say(rt: &HostRuntime, words: usize, slot: &[u8], limit: &[u8]) {
+    let mut text = [0u8; PAGE];
+    match tell(words, slot, limit, &mut text) {
+        Some(n) => reading::print(
+            &mut rt.stdout(),
+            &mut rt.stderr(),
+            &text[..n],
+            b"spurquote: standard output can't be written\n",
+        ),
+        None => reading::complain(
+            &mut rt.stderr(),
             b"spurquote: a slot and a hold limit are to be given, two numbers\n",
         ),
-    }
+    };
 }
 
 fn main(rt: HostRuntime) {
@@ -120,6 +87,7 @@ fn main(rt: HostRuntime) {
     let slot_size = reading::word_given(&rt, 1, &mut slot);
     let limit_size = reading::word_given(&rt, 2, &mut limit);
     say(
+        &rt,
         reading::words_given(&rt),
         &slot[..slot_size],
         &limit[..limit_size],

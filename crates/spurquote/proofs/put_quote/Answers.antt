@@ -1,16 +1,18 @@
 -- `spurquote::put_quote` meets its contract: the line of the answer, whichever it is. Assumes nothing.
-use Rattle.spurquote.proofs.Printing.{worst_line_lem, slot-line, limit-line, adds-line}
-use Rattle.printed.proofs.AddingLaws.{adds_put}
+use mathlib.Core.Path.{ap, ◌∙◌}
+use mathlib.Core.List.{List}
+use Prim.Native.Nat.{ℕ}
+use Rattle.text.specs.Pages.{grown}
+use Rattle.printed.specs.Lines.{refused_line}
+use Rattle.spurquote.proofs.Printing.{worst_told, refusal_told}
 use Rattle.spurquote.proofs.put_quote.Goals as goal
 
-pub returns-in-Is : goal.returns-in-Is
-returns-in-Is c = let line = worst_line_lem _ _ _ _ c.narrowed.ensures c.narrowed-2.ensures _ c.worst_wait.ensures.0 _ c.in-Is.is in
-    adds-line c.front-start.ensures line c.put_worst.ensures
+pub returns-in-Ok : goal.returns-in-Ok
+returns-in-Ok g c = let a = c.args in
+    let told = worst_told a.slot a.limit _ _ c.narrowed.ensures c.narrowed-2.ensures c.in-Ok.worst c.in-Ok.ensures.0 in
+    c.put_worst.ensures ∙ ap (λ (line : List ℕ). grown g.row.N a.page.now line) told
 
-pub returns-in-BadSlot : goal.returns-in-BadSlot
-returns-in-BadSlot c = let line = slot-line _ _ _ _ c.narrowed.ensures c.narrowed-2.ensures _ c.worst_wait.ensures.0 c.in-BadSlot.is in
-    adds-line c.front-start.ensures line (adds_put c.put_refused.ensures)
-
-pub returns-in-BadLimit : goal.returns-in-BadLimit
-returns-in-BadLimit c = let line = limit-line _ _ _ _ c.narrowed.ensures c.narrowed-2.ensures _ c.worst_wait.ensures.0 c.in-BadLimit.is in
-    adds-line c.front-start.ensures line (adds_put c.put_refused-in-BadLimit.ensures)
+pub returns-in-Err : goal.returns-in-Err
+returns-in-Err g c = let a = c.args in
+    let told = refusal_told a.slot a.limit _ _ c.narrowed.ensures c.narrowed-2.ensures c.in-Err.refusal c.in-Err.ensures.0 in
+    c.add_refused.ensures ∙ ap (λ (line : List ℕ). grown g.row.N a.page.now line) (ap refused_line c.number.ensures ∙ told)
