@@ -12,8 +12,6 @@ use Rattle.rules.specs.Bounds.{SoundJudge, SoundTally}
 use Rattle.rules.specs.Run.{from, records_in, run_of}
 use Rattle.rules.specs.Verdict.{refusal_of, refused_by, verdict_of, outcome_in, outcome_of}
 use Rattle.rules.specs.Exact.{After, Told}
-use Rattle.judge.specs.declared.Call.{Call}
-use Rattle.judge.specs.Quick.{call_of}
 use Rattle.rules.proofs.Laws.{none-refused, outcome-judged, outcome-refused}
 use Rattle.rules.proofs.Told.{told}
 
@@ -37,8 +35,3 @@ judged_call bytes j t n v p e z ep ev =
 
 pub call_sound : (size : ℕ) (j : Judge) (t : Tally) (n : ℕ) → n ≡ refusal_of size j t → n ≡ 0 → SoundJudge j × (SoundTally t × (t.records + size / 16 ≤ 2 ^ 30))
 call_sound size j t n e z = let h = none-refused size j t (sym e ∙ z) in (h.0, (h.1.0, h.1.1.0))
-
--- the same of the answer to a caller who lends the tally
-pub call_told : (bytes : List ℕ) (j : Judge) (t : Tally) (r : Call) → r ≡ call_of (outcome_of bytes j t) → (limit : ℕ) (past : List ℕ) → After limit past j t → Told limit past bytes j t (record { verdict = r.judged.verdict; judge = r.judged.judge; tally = r.tally })
-call_told bytes j t r e limit past a =
-    subst (λ (y : Call). Told limit past bytes j t (record { verdict = y.judged.verdict; judge = y.judged.judge; tally = y.tally })) (sym e) (told limit past bytes j t a)

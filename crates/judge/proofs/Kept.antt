@@ -16,8 +16,7 @@ use Rattle.rules.specs.declared.Tally.{Tally}
 use Rattle.rules.specs.declared.Wave.{Wave}
 use Rattle.rules.specs.declared.Transfer.{Transfer}
 use Rattle.rules.specs.declared.Transfer.TheVariants.{Idle, Open}
-use Rattle.rules.specs.declared.Owner.{Owner}
-use Rattle.rules.specs.declared.Owner.TheVariants.{Slot}
+use Rattle.std.specs.Prelude.{Option, Some}
 use Rattle.rules.specs.Rules.{strobe, rule5, rule6, rule9, rule10, rule11, rule12, rule13, rule13a, rule13b}
 use Rattle.rules.specs.State.{is_open, is_owned, open_words, open_strobes, open_age, aged_of, transfer_of, asked_of, twice_of, capped, wave_of, tally_of}
 use Rattle.rules.specs.Run.{later_rules, from, step_of}
@@ -37,7 +36,7 @@ implies-none true b e = absurd (true≢false e)
 implies-none false b e = refl
 
 -- ---- the wave
-wave-same : {r r' p p' : Bool} {o o' : Owner} {s s' a a' t t' : ℕ} → r ≡ r' → p ≡ p' → o ≡ o' → s ≡ s' → a ≡ a' → t ≡ t'
+wave-same : {r r' p p' : Bool} {o o' : Option ℕ} {s s' a a' t t' : ℕ} → r ≡ r' → p ≡ p' → o ≡ o' → s ≡ s' → a ≡ a' → t ≡ t'
     → ◌≡◌ {A = Wave} (record { rqst = r; prior = p; owner = o; since = s; arb = a; turn = t }) (record { rqst = r'; prior = p'; owner = o'; since = s'; arb = a'; turn = t' })
 wave-same e f g h i k = cc
 
@@ -78,7 +77,7 @@ started_is w rqst start arb d k s h = subst (λ (b : Bool). wave_of w rqst b arb
     going e =
         let a : asked_of w d ≡ true = both_and (eqb d 1) w.rqst (eq-eqb d 1 (h e)) e in
         let b : (w.rqst && rqst) ≡ rqst = ap (λ (x : Bool). x && rqst) e in
-        wave-same refl (a ∙ sym e) (ap (λ (x : Bool). cond x (Slot arb) w.owner) (a ∙ sym e))
+        wave-same refl (a ∙ sym e) (ap (λ (x : Bool). cond x (Some arb) w.owner) (a ∙ sym e))
         (ap (λ (x : Bool). cond rqst (cond x 0 (capped (w.since + d))) 3) a ∙ ap (λ (x : Bool). cond x 0 3) (sym b))
         (ap (λ (x : Bool). cond rqst (cond x arb w.arb) 15) a ∙ ap (λ (x : Bool). cond x arb 15) (sym b))
         (ap (λ (x : Bool). cond rqst (cond x (cond (eqb arb w.arb) (w.turn + 1) 1) w.turn) 0) a ∙ ap (λ (x : Bool). cond x (cond (eqb arb w.arb) (w.turn + 1) 1) 0) (sym b))
@@ -87,7 +86,7 @@ started_is w rqst start arb d k s h = subst (λ (b : Bool). wave_of w rqst b arb
     resting e =
         let a : asked_of w d ≡ false = ap (λ (x : Bool). eqb d 1 && x) e ∙ and-false (eqb d 1) in
         let b : (w.rqst && rqst) ≡ false = ap (λ (x : Bool). x && rqst) e in
-        wave-same refl (a ∙ sym e) (ap (λ (x : Bool). cond x (Slot arb) w.owner) (a ∙ sym e))
+        wave-same refl (a ∙ sym e) (ap (λ (x : Bool). cond x (Some arb) w.owner) (a ∙ sym e))
         (ap (λ (x : Bool). cond rqst (cond x 0 (capped (w.since + d))) 3) a ∙ choice (λ (n : ℕ). n ≡ 3) rqst (λ _. capped_three w.since d (k.since e)) (λ _. refl) ∙ ap (λ (x : Bool). cond x 0 3) (sym b))
         (ap (λ (x : Bool). cond rqst (cond x arb w.arb) 15) a ∙ choice (λ (n : ℕ). n ≡ 15) rqst (λ _. k.arb e) (λ _. refl) ∙ ap (λ (x : Bool). cond x arb 15) (sym b))
         (ap (λ (x : Bool). cond rqst (cond x (cond (eqb arb w.arb) (w.turn + 1) 1) w.turn) 0) a ∙ choice (λ (n : ℕ). n ≡ 0) rqst (λ _. k.turn e) (λ _. refl) ∙ ap (λ (x : Bool). cond x (cond (eqb arb w.arb) (w.turn + 1) 1) 0) (sym b))

@@ -138,7 +138,3 @@ plain_is j t r spare d odd right ok h room apart eo er ek e =
 -- what was judged with its spare bits zero
 pub spare-none : (j : Judge) (t : Tally) (r : Record) (spare : ℕ) (p : Progress) → spare ≡ 0 → p ≡ step_of j t (record { lines = r; spare = 0 }) → p ≡ step_of j t (record { lines = r; spare = spare })
 spare-none j t r spare p e f = f ∙ ap (λ (n : ℕ). step_of j t (record { lines = r; spare = n })) (sym e)
-
--- nothing is said of a record that is not decided
-pub not_decided : {A : Type 0} (n : ℕ) → n ≡ 1 → n ≡ 0 → A
-not_decided n e f = let z : ◌≡◌ {A = ℕ} 1 0 = sym e ∙ f in absurd (omega arith)

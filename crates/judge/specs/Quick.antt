@@ -1,6 +1,6 @@
 -- What the quick way of judging a record rests on, and the tests that it makes. Nothing here is promised to a caller: the promise is
 -- `outcome_of` and `Told` of the crate `rules`, and the proofs show that the quick way keeps it.
-use Rattle.std.specs.Prelude.{ℕ, ◌+◌, ◌-◌, ◌*◌, ◌/◌, ◌^◌, ◌≤◌, ◌<◌, Bool, true, false, not, cond, ◌&&◌, ◌||◌, List, ◌≡◌, leb, ltb, eqb, length, drop}
+use Rattle.std.specs.Prelude.{ℕ, ◌+◌, ◌-◌, ◌*◌, ◌/◌, ◌^◌, ◌≤◌, ◌<◌, Bool, true, false, not, cond, ◌&&◌, ◌||◌, List, ◌≡◌, leb, ltb, eqb, length, drop, Some}
 use Rattle.basics.specs.Lines.{one}
 use Rattle.basics.specs.Numbers.{watchdog}
 use Rattle.basics.specs.Order.{implies}
@@ -12,15 +12,11 @@ use Rattle.rules.specs.declared.Tally.{Tally}
 use Rattle.rules.specs.declared.Wave.{Wave}
 use Rattle.rules.specs.declared.Transfer.{Transfer}
 use Rattle.rules.specs.declared.Transfer.TheVariants.{Idle, Open}
-use Rattle.rules.specs.declared.Owner.TheVariants.{Slot}
 use Rattle.rules.specs.Rules.{rule3}
 use Rattle.rules.specs.State.{is_open, is_owned, diff_of}
 use Rattle.rules.specs.Bounds.{SoundJudge, SoundTally}
 use Rattle.rules.specs.Run.{from, run_of, records_in}
-use Rattle.rules.specs.declared.Outcome.{Outcome}
-use Rattle.rules.specs.Verdict.{judged_of}
 use Rattle.judge.specs.declared.quick.Reached.{Reached}
-use Rattle.judge.specs.declared.Call.{Call}
 
 -- what every record leaves of the wave: where RQST is inactive, nothing of one
 pub record WaveKept (w : Wave) : Type 0 where
@@ -64,7 +60,7 @@ started_of w rqst arb =
     record {
       rqst = rqst;
       prior = w.rqst;
-      owner = cond w.rqst (Slot arb) w.owner;
+      owner = cond w.rqst (Some arb) w.owner;
       since = cond (w.rqst && rqst) 0 3;
       arb = cond (w.rqst && rqst) arb 15;
       turn = cond (w.rqst && rqst) (cond (eqb arb w.arb) (w.turn + 1) 1) 0;
@@ -125,7 +121,3 @@ pub record Left (s : List ℕ) (j : Judge) (t : Tally) (r : Reached) : Type 0 wh
   pub ready : Ready r.judge r.tally
   pub room : r.tally.records + (length s / 16 - r.done) ≤ 2 ^ 30
   pub same : run_of (from r.judge r.tally) (records_in (length s / 16 - r.done) (drop (r.done * 16) s)) ≡ run_of (from j t) (records_in (length s / 16) s)
-
--- the answer to a caller who lends the tally, and the tally to be
-abbrev pub call_of : Outcome → Call
-call_of o = record { judged = judged_of o; tally = o.tally }

@@ -1,14 +1,13 @@
 // The state and the tally after a record that breaks no rule (document 01, "The judge", and its "Totals").
-ghost use Rattle.std.specs.Prelude.{◌≡◌, true, false, cond, ◌+◌, ◌^◌, ◌≤◌, ◌<◌};
+ghost use Rattle.std.specs.Prelude.{◌≡◌, true, false, cond, ◌+◌, ◌^◌, ◌≤◌, ◌<◌, Some};
 ghost use Rattle.codes.specs.Owed.{words_of};
-ghost use Rattle.rules.specs.declared.Owner.TheVariants.{Slot};
 ghost use Rattle.rules.specs.Rules.{rule12};
 ghost use Rattle.rules.specs.State.{is_open, open_age, aged_of, transfer_of, capped, wave_of, reset_of, moved_of, judge_of, tally_of};
 ghost use Rattle.rules.specs.Bounds.{SoundTransfer, SoundJudge, SoundTally};
 ghost use Rattle.rules.specs.Run.{from as starting};
 
 use record::Record;
-use rules::{Judge, Owner, Progress, Tally, Transfer, Wave};
+use rules::{Judge, Progress, Tally, Transfer, Wave};
 
 // The age returns to 0 with each strobe of a block (02, wish 5).
 fn age_after(strobe: bool, age: u32) -> u32
@@ -30,12 +29,12 @@ pub(crate) fn aged(transfer: Transfer, lines: Record, d: u32) -> Transfer
             age,
             busy,
         } => {
-            let counts = (1 < words) & lines.tm0 & !lines.start & !lines.ack;
+            let counts = rules::is_strobe(words, lines.start, lines.ack, lines.tm0);
             let with = strobes + basics::one_if(counts);
             let older = age_after(counts, age as u32 + d);
             let longer = busy + d;
             Transfer::Open {
-                words: words,
+                words,
                 strobes: with,
                 age: older as u16,
                 busy: longer,
@@ -53,9 +52,8 @@ fn next_transfer(transfer: Transfer, lines: Record, d: u32) -> Transfer
         return Transfer::Idle;
     }
     if lines.start {
-        let words = codes::words_owed(lines.tm0, lines.ad);
         return Transfer::Open {
-            words: words,
+            words: codes::words_owed(lines.tm0, lines.ad),
             strobes: 0,
             age: 0,
             busy: 1,
@@ -68,18 +66,14 @@ fn next_transfer(transfer: Transfer, lines: Record, d: u32) -> Transfer
 fn next_since(since: u8, d: u32) -> u8
     ensures { result ≡ capped (since + d) }
 {
-    let n = since as u64 + d as u64;
-    if n < 3 { n as u8 } else { 3 }
+    (since as u64 + d as u64).min(3) as u8
 }
 
 // A START of a wave makes its master the owner.
-pub(crate) fn next_owner(starts: bool, arb: u8, owner: Owner) -> Owner
-    ensures { result ≡ cond starts (Slot arb) owner }
+pub(crate) fn next_owner(starts: bool, arb: u8, owner: Option<u8>) -> Option<u8>
+    ensures { result ≡ cond starts (Some arb) owner }
 {
-    if starts {
-        return Owner::Slot(arb);
-    }
-    owner
+    basics::pick(starts, Some(arb), owner)
 }
 
 fn next_wave(wave: Wave, lines: Record, d: u32) -> Wave
@@ -88,7 +82,6 @@ fn next_wave(wave: Wave, lines: Record, d: u32) -> Wave
 {
     let arb = lines.arb;
     let rqst = lines.rqst;
-    let owner = wave.owner;
     let one = breach::asked(wave, d);
     let starts = lines.start & one;
     let since = basics::pick(starts, 0, next_since(wave.since, d));
@@ -96,9 +89,9 @@ fn next_wave(wave: Wave, lines: Record, d: u32) -> Wave
     let again = basics::pick(arb == wave.arb, wave.turn + 1, 1);
     let turn = basics::pick(starts, again, wave.turn);
     Wave {
-        rqst: rqst,
+        rqst,
         prior: one,
-        owner: next_owner(starts, arb, owner),
+        owner: next_owner(starts, arb, wave.owner),
         since: basics::pick(rqst, since, 3),
         arb: basics::pick(rqst, last, 15),
         turn: basics::pick(rqst, turn, 0),
@@ -110,11 +103,11 @@ pub(crate) fn state_after(judge: Judge, stamp: u32, transfer: Transfer, wave: Wa
     ensures { result ≡ record { limit = judge.limit; seen = true; stamp = stamp; transfer = transfer; wave = wave } }
 {
     Judge {
-        limit: judge.limit,
         seen: true,
-        stamp: stamp,
-        transfer: transfer,
-        wave: wave,
+        stamp,
+        transfer,
+        wave,
+        ..judge
     }
 }
 
@@ -129,10 +122,13 @@ fn moved(judge: Judge, lines: Record, d: u32) -> Judge
     requires { SoundJudge judge × (rule12 (is_open judge.transfer) (open_age judge.transfer) d ≡ true) }
     ensures { result ≡ moved_of judge lines d }
 {
-    let open = judge.transfer;
-    let last = judge.wave;
-    let transfer = next_transfer(open, lines, d);
-    state_after(judge, lines.stamp, transfer, next_wave(last, lines, d))
+    let transfer = next_transfer(judge.transfer, lines, d);
+    state_after(
+        judge,
+        lines.stamp,
+        transfer,
+        next_wave(judge.wave, lines, d),
+    )
 }
 
 // No rule but 1 and 2 applies to a record with RESET, so that there the age may be any.
@@ -165,13 +161,12 @@ pub(crate) fn unbroken(judge: Judge, tally: Tally, lines: Record, d: u32, next: 
     requires { SoundTally tally × (tally.records < 2 ^ 30) }
     ensures { result ≡ starting next (tally_of tally (is_open judge.transfer) lines.reset lines.start lines.ack d) }
 {
-    let open = judge.transfer;
-    let totals = counted(tally, rules::is_open(open), lines, d);
+    let tally = counted(tally, rules::is_open(judge.transfer), lines, d);
     Progress {
         rule: 0,
         kind: 0,
         span: 0,
         judge: next,
-        tally: totals,
+        tally,
     }
 }

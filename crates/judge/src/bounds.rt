@@ -2,7 +2,7 @@
 ghost use Rattle.std.specs.Prelude.{◌≡◌};
 ghost use Rattle.rules.specs.Bounds.{transfer_bounds, owner_bounds, judge_bounds, tally_bounds};
 
-use rules::{Judge, Owner, Tally, Transfer};
+use rules::{Judge, Tally, Transfer};
 
 fn transfer_in_bounds(transfer: Transfer) -> bool
     ensures { result ≡ transfer_bounds transfer }
@@ -24,28 +24,28 @@ fn transfer_in_bounds(transfer: Transfer) -> bool
     }
 }
 
-fn owner_in_bounds(owner: Owner) -> bool
+fn owner_in_bounds(owner: Option<u8>) -> bool
     ensures { result ≡ owner_bounds owner }
 {
     match owner {
-        Owner::Nobody => true,
-        Owner::Slot(slot) => slot <= 15,
+        None => true,
+        Some(slot) => slot <= 15,
     }
 }
 
+#[tactic(auto, unfolding(rules::specs::Bounds::judge_bounds))]
 pub fn judge_in_bounds(judge: Judge) -> bool
     ensures { result ≡ judge_bounds judge }
 {
-    let transfer = judge.transfer;
     let wave = judge.wave;
-    let owner = wave.owner;
     ((1 <= judge.limit) & (judge.limit <= Judge::MOST_STARTS))
-        & transfer_in_bounds(transfer)
+        & transfer_in_bounds(judge.transfer)
         & (wave.turn <= judge.limit)
         & (wave.arb <= 15)
-        & owner_in_bounds(owner)
+        & owner_in_bounds(wave.owner)
 }
 
+#[tactic(auto, unfolding(rules::specs::Bounds::tally_bounds))]
 pub fn tally_in_bounds(tally: Tally) -> bool
     ensures { result ≡ tally_bounds tally }
 {

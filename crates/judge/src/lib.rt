@@ -9,12 +9,13 @@ mod bounds;
 mod quick;
 
 ghost use Rattle.std.specs.Prelude.{◌≡◌, List, ℕ, ◌+◌, ◌/◌, ◌^◌, ◌≤◌, ◌<◌, length, take};
+ghost use Rattle.basics.specs.Answers.{call_number};
 ghost use Rattle.rules.specs.Bounds.{SoundJudge, SoundTally};
 ghost use Rattle.rules.specs.Run.{taken_in, span_of, broken, step_of, records_in, run_of, from as starting};
 ghost use Rattle.rules.specs.Verdict.{refusal_of, verdict_of, outcome_of, judged_of};
 ghost use Rattle.rules.specs.Exact.{After, Told};
-ghost use Rattle.judge.specs.Quick.{call_of};
 
+use basics::Refusal;
 pub use bounds::{judge_in_bounds, tally_in_bounds};
 use record::Record;
 use rules::{Broken, Judge, Judged, Outcome, Progress, Rule, Tally, Verdict};
@@ -37,13 +38,12 @@ fn broken_at(judge: Judge, tally: Tally, rule: Rule, d: u32) -> Progress
     requires { SoundTally tally × (tally.records < 2 ^ 30) }
     ensures { result ≡ broken rule d judge tally }
 {
-    let span = span_at(tally, rule.number, d);
     Progress {
         rule: rule.number,
         kind: rule.kind,
-        span: span,
-        judge: judge,
-        tally: tally,
+        span: span_at(tally, rule.number, d),
+        judge,
+        tally,
     }
 }
 
@@ -82,16 +82,14 @@ fn judge_records(bytes: &[u8], judge: Judge, tally: Tally) -> Progress
     let mut state = judge;
     let mut totals = tally;
     let mut i: usize = 0;
+    // Stays: the step is as many records as the quick way judged, so that no range gives the places.
     while i < n {
         let at = i * 16;
         let one = judge_one(state, totals, &bytes[at..]);
         if one.rule != 0 {
             return one;
         }
-        let rest = at + 16;
-        let next = one.judge;
-        let counts = one.tally;
-        let run = quick::quick_run(&bytes[rest..], next, counts);
+        let run = quick::quick_run(&bytes[at + 16..], one.judge, one.tally);
         state = run.judge;
         totals = run.tally;
         i = i + 1 + run.done;
@@ -107,35 +105,40 @@ fn judge_records(bytes: &[u8], judge: Judge, tally: Tally) -> Progress
 
 // ---- a call
 
-// The refusal of a call with so many bytes, in document 01's order: 5, 8, 1, or 0 where it is accepted.
-fn refusal(size: usize, judge: Judge, tally: Tally) -> u8
-    ensures { result ≡ refusal_of size judge tally }
+// Whether a call with so many bytes is refused, in document 01's order: 5, 8, 1.
+#[tactic(auto, unfolding(rules::specs::Verdict::refusal_of))]
+fn refusal(size: usize, judge: Judge, tally: Tally) -> Result<(), Refusal>
+    ensures { call_number result ≡ refusal_of size judge tally }
 {
     let bounded = bounds::judge_in_bounds(judge) & bounds::tally_in_bounds(tally);
     let room = tally.records as u64 + (size / 16) as u64 <= Judge::MOST_RECORDS as u64;
     let whole = size % 16 == 0;
-    basics::first(
-        bounded,
-        5,
-        basics::first(room, 8, basics::first(whole, 1, 0)),
-    )
+    if !bounded {
+        return Err(Refusal::Bounds);
+    }
+    if !room {
+        return Err(Refusal::TooMany);
+    }
+    if !whole {
+        return Err(Refusal::Length);
+    }
+    Ok(())
 }
 
 // "A breach names its rule and the tally's records", its kind and the span.
+#[tactic(auto, unfolding(rules::specs::Verdict::verdict_of))]
 fn verdict_of(end: Progress) -> Verdict
     ensures { result ≡ verdict_of end }
 {
-    let totals = end.tally;
     if end.rule == 0 {
         return Verdict::Conforming;
     }
-    let broken = Broken {
+    Verdict::Breach(Broken {
         rule: end.rule,
         kind: end.kind,
-        place: totals.records,
+        place: end.tally.records,
         span: end.span,
-    };
-    Verdict::Breach(broken)
+    })
 }
 
 // Judges a recording, or its next part, from a state and a tally. Nothing changes on a refusal, and a breach leaves both as they were
@@ -144,21 +147,20 @@ fn verdict_of(end: Progress) -> Verdict
 pub fn judge_all(bytes: &[u8], judge: Judge, tally: Tally) -> Outcome
     ensures { (result ≡ outcome_of bytes.now judge tally) × ((limit : ℕ) (past : List ℕ) → After limit past judge tally → Told limit past bytes.now judge tally result) }
 {
-    let number = refusal(bytes.len(), judge, tally);
-    if number != 0 {
-        return Outcome {
-            verdict: rules::refused_by(number),
-            judge: judge,
-            tally: tally,
-        };
-    }
-    let end = judge_records(bytes, judge, tally);
-    let state = end.judge;
-    let totals = end.tally;
-    Outcome {
-        verdict: verdict_of(end),
-        judge: state,
-        tally: totals,
+    match refusal(bytes.len(), judge, tally) {
+        Err(refusal) => Outcome {
+            verdict: rules::refused_by(refusal.number()),
+            judge,
+            tally,
+        },
+        Ok(()) => {
+            let end = judge_records(bytes, judge, tally);
+            Outcome {
+                verdict: verdict_of(end),
+                judge: end.judge,
+                tally: end.tally,
+            }
+        }
     }
 }
 
@@ -166,40 +168,17 @@ pub fn judge_all(bytes: &[u8], judge: Judge, tally: Tally) -> Outcome
 pub fn judge_record(sixteen: [u8; 16], judge: Judge, tally: Tally) -> Outcome
     ensures { (result ≡ outcome_of sixteen judge tally) × ((limit : ℕ) (past : List ℕ) → After limit past judge tally → Told limit past sixteen judge tally result) }
 {
-    let bytes: &[u8] = &sixteen;
-    let outcome = judge_all(bytes, judge, tally);
-    outcome
-}
-
-// What a caller who lends the tally is answered, and the tally to be.
-#[derive(Clone, Copy)]
-struct Call {
-    judged: Judged,
-    tally: Tally,
-}
-
-fn judge_by_value(bytes: &[u8], judge: Judge, tally: Tally) -> Call
-    ensures { result ≡ call_of (outcome_of bytes.now judge tally) }
-{
-    let end = judge_all(bytes, judge, tally);
-    let verdict = end.verdict;
-    let state = end.judge;
-    let next = end.tally;
-    let judged = Judged {
-        verdict: verdict,
-        judge: state,
-    };
-    Call {
-        judged: judged,
-        tally: next,
-    }
+    judge_all(&sixteen, judge, tally)
 }
 
 // The same with the tally that the caller lends: the by-value update, applied.
 pub fn judge_recording(bytes: &[u8], judge: Judge, tally: &mut Tally) -> Judged
     ensures { (result ≡ judged_of (outcome_of bytes.now judge tally.old)) × ((tally.new ≡ (outcome_of bytes.now judge tally.old).tally) × ((limit : ℕ) (past : List ℕ) → After limit past judge tally.old → Told limit past bytes.now judge tally.old (record { verdict = result.verdict; judge = result.judge; tally = tally.new }))) }
 {
-    let end = judge_by_value(bytes, judge, *tally);
+    let end = judge_all(bytes, judge, *tally);
     *tally = end.tally;
-    end.judged
+    Judged {
+        verdict: end.verdict,
+        judge: end.judge,
+    }
 }

@@ -1,6 +1,6 @@
 // The quick way (document 01, "The judge"): most records break no rule, and few tests see that of a record that follows another. What they
 // do not decide is judged rule by rule.
-ghost use Rattle.std.specs.Prelude.{◌≡◌, ◌+◌, ◌/◌, ◌^◌, ◌≤◌, ◌<◌, length};
+ghost use Rattle.std.specs.Prelude.{◌≡◌, ◌+◌, ◌/◌, ◌^◌, ◌≤◌, ◌<◌, length, IfSome};
 ghost use Rattle.rules.specs.State.{diff_of};
 ghost use Rattle.rules.specs.Run.{step_of};
 ghost use Rattle.judge.specs.Quick.{WaveKept, Ready, waited_of, started_of, turn_holds, start_holds, request_holds, ack_holds, quiet_holds, plainly, StartKept, AckKept, QuietKept, Left};
@@ -18,31 +18,15 @@ pub(crate) struct Reached {
     pub(crate) tally: Tally,
 }
 
-// Not decided: a rule other than 0 says here only that `judge_one` has to look.
-fn undecided(judge: Judge, tally: Tally) -> Progress
-    ensures { result.rule ≡ 1 }
-{
-    Progress {
-        rule: 1,
-        kind: 0,
-        span: 0,
-        judge: judge,
-        tally: tally,
-    }
-}
-
 fn waited(wave: Wave, rqst: bool) -> Wave
     requires { WaveKept wave }
     ensures { result ≡ waited_of wave rqst }
 {
-    let owner = wave.owner;
     Wave {
-        rqst: rqst,
+        rqst,
         prior: wave.rqst,
-        owner: owner,
         since: wave.since + basics::one_if(wave.since < 3),
-        arb: wave.arb,
-        turn: wave.turn,
+        ..wave
     }
 }
 
@@ -51,12 +35,11 @@ fn started(wave: Wave, rqst: bool, arb: u8) -> Wave
     ensures { result ≡ started_of wave rqst arb }
 {
     let of_wave = wave.rqst & rqst;
-    let owner = wave.owner;
     let again = basics::pick(arb == wave.arb, wave.turn + 1, 1);
     Wave {
-        rqst: rqst,
+        rqst,
         prior: wave.rqst,
-        owner: after::next_owner(wave.rqst, arb, owner),
+        owner: after::next_owner(wave.rqst, arb, wave.owner),
         since: basics::pick(of_wave, 0, 3),
         arb: basics::pick(of_wave, arb, 15),
         turn: basics::pick(of_wave, again, 0),
@@ -73,11 +56,11 @@ fn turn_holds(limit: u8, wave: Wave, arb: u8, d: u32) -> bool
         & (!(arb == wave.arb) | (wave.turn < limit))
 }
 
+#[tactic(auto, unfolding(crate::specs::Quick::start_holds))]
 fn start_holds(busy: bool, words: u8, wave: Wave, in_turn: bool, ack: bool) -> bool
     ensures { result ≡ start_holds busy words wave in_turn ack }
 {
-    let owner = wave.owner;
-    !busy & !ack & (0 < words) & (wave.rqst | rules::is_owned(owner)) & (!wave.rqst | in_turn)
+    !busy & !ack & (0 < words) & (wave.rqst | wave.owner.is_some()) & (!wave.rqst | in_turn)
 }
 
 fn request_holds(wave: Wave, rqst: bool, d: u32) -> bool
@@ -95,7 +78,7 @@ fn ack_holds(transfer: Transfer, tm1: bool, tm0: bool, d: u32) -> bool
             words,
             strobes,
             age,
-            busy: _,
+            ..
         } => {
             (age as u64 + d as u64 <= AGE_MOST)
                 & (!(tm1 & tm0) | (strobes as u32 + 1 == words as u32))
@@ -112,7 +95,7 @@ fn quiet_holds(transfer: Transfer, tm0: bool, d: u32) -> bool
             words,
             strobes,
             age,
-            busy: _,
+            ..
         } => {
             let with = strobes as u32 + 1;
             (age as u64 + d as u64 <= AGE_MOST) & (!((1 < words) & tm0) | (with < words as u32))
@@ -123,16 +106,15 @@ fn quiet_holds(transfer: Transfer, tm0: bool, d: u32) -> bool
 // After a START without ACK.
 fn after_start(judge: Judge, tally: Tally, lines: Record, words: u8, d: u32) -> Progress
     requires { StartKept judge tally lines words d }
-    ensures { result ≡ step_of judge tally (record { lines = lines; spare = 0 }) }
+    ensures { (result.rule ≡ 0) × (result ≡ step_of judge tally (record { lines = lines; spare = 0 })) }
 {
-    let last = judge.wave;
     let transfer = Transfer::Open {
-        words: words,
+        words,
         strobes: 0,
         age: 0,
         busy: 1,
     };
-    let wave = started(last, lines.rqst, lines.arb);
+    let wave = started(judge.wave, lines.rqst, lines.arb);
     let next = after::state_after(judge, lines.stamp, transfer, wave);
     after::unbroken(judge, tally, lines, d, next)
 }
@@ -140,10 +122,9 @@ fn after_start(judge: Judge, tally: Tally, lines: Record, words: u8, d: u32) -> 
 // After an ACK without START.
 fn after_ack(judge: Judge, tally: Tally, lines: Record, d: u32) -> Progress
     requires { AckKept judge tally lines d }
-    ensures { result ≡ step_of judge tally (record { lines = lines; spare = 0 }) }
+    ensures { (result.rule ≡ 0) × (result ≡ step_of judge tally (record { lines = lines; spare = 0 })) }
 {
-    let last = judge.wave;
-    let wave = waited(last, lines.rqst);
+    let wave = waited(judge.wave, lines.rqst);
     let next = after::state_after(judge, lines.stamp, Transfer::Idle, wave);
     after::unbroken(judge, tally, lines, d, next)
 }
@@ -151,12 +132,10 @@ fn after_ack(judge: Judge, tally: Tally, lines: Record, d: u32) -> Progress
 // After a record with neither.
 fn after_quiet(judge: Judge, tally: Tally, lines: Record, d: u32) -> Progress
     requires { QuietKept judge tally lines d }
-    ensures { result ≡ step_of judge tally (record { lines = lines; spare = 0 }) }
+    ensures { (result.rule ≡ 0) × (result ≡ step_of judge tally (record { lines = lines; spare = 0 })) }
 {
-    let open = judge.transfer;
-    let last = judge.wave;
-    let transfer = after::aged(open, lines, d);
-    let wave = waited(last, lines.rqst);
+    let transfer = after::aged(judge.transfer, lines, d);
+    let wave = waited(judge.wave, lines.rqst);
     let next = after::state_after(judge, lines.stamp, transfer, wave);
     after::unbroken(judge, tally, lines, d, next)
 }
@@ -168,36 +147,43 @@ fn plain(spare: u16, d: u32, reset: bool, parity: bool) -> bool
     (spare == 0) & (1 <= d) & (d <= 2147483648) & !reset & parity
 }
 
-// Judges a record where one was judged before, if it can be done with few tests.
-fn quick(judge: Judge, tally: Tally, lines: Record, spare: u16, d: u32) -> Progress
+// Judges a record where one was judged before, if it can be done with few tests; nothing is said of one that `judge_one` has to look at.
+fn quick(judge: Judge, tally: Tally, lines: Record, spare: u16, d: u32) -> Option<Progress>
     requires { Ready judge tally × ((tally.records < 2 ^ 30) × (d ≡ diff_of judge lines.stamp)) }
-    ensures { result.rule ≡ 0 → result ≡ step_of judge tally (record { lines = lines; spare = spare }) }
+    ensures { IfSome result (λ p. (p.rule ≡ 0) × (p ≡ step_of judge tally (record { lines = lines; spare = spare }))) }
 {
     let open = judge.transfer;
     let wave = judge.wave;
     let parity = breach::parity_right(lines.spv, lines.sp, codes::parity(lines.ad));
-    if plain(spare, d, lines.reset, parity) {
-        if lines.start {
-            let words = codes::words_owed(lines.tm0, lines.ad);
-            let in_turn = turn_holds(judge.limit, wave, lines.arb, d);
-            if start_holds(rules::is_open(open), words, wave, in_turn, lines.ack) {
-                return after_start(judge, tally, lines, words, d);
-            }
-            return undecided(judge, tally);
-        }
-        if request_holds(wave, lines.rqst, d) {
-            if lines.ack {
-                if ack_holds(open, lines.tm1, lines.tm0, d) {
-                    return after_ack(judge, tally, lines, d);
-                }
-                return undecided(judge, tally);
-            }
-            if quiet_holds(open, lines.tm0, d) {
-                return after_quiet(judge, tally, lines, d);
-            }
-        }
+    let first = plain(spare, d, lines.reset, parity);
+    if !first {
+        return None;
     }
-    undecided(judge, tally)
+    if lines.start {
+        let words = codes::words_owed(lines.tm0, lines.ad);
+        let in_turn = turn_holds(judge.limit, wave, lines.arb, d);
+        let starts = start_holds(rules::is_open(open), words, wave, in_turn, lines.ack);
+        if starts {
+            return Some(after_start(judge, tally, lines, words, d));
+        }
+        return None;
+    }
+    let asks = request_holds(wave, lines.rqst, d);
+    if !asks {
+        return None;
+    }
+    if lines.ack {
+        let ends = ack_holds(open, lines.tm1, lines.tm0, d);
+        if ends {
+            return Some(after_ack(judge, tally, lines, d));
+        }
+        return None;
+    }
+    let waits = quiet_holds(open, lines.tm0, d);
+    if waits {
+        return Some(after_quiet(judge, tally, lines, d));
+    }
+    None
 }
 
 // Judges the records of a part, up to the first that is not decided quickly. Just the record's sixteen bytes are lent, so that the compiler sees that
@@ -209,28 +195,24 @@ pub(crate) fn quick_run(part: &[u8], judge: Judge, tally: Tally) -> Reached
     let n = part.len() / 16;
     let mut state = judge;
     let mut totals = tally;
-    let mut i: usize = 0;
-    while i < n {
+    for i in 0..n {
         let at = i * 16;
-        let end = at + 16;
-        let rest = &part[at..end];
-        let lines = record::lines_in(rest);
-        let spare = record::spare_in(rest);
+        let sixteen = &part[at..at + 16];
+        let lines = record::lines_in(sixteen);
+        let spare = record::spare_in(sixteen);
         let d = breach::difference(state, lines.stamp);
-        let next = quick(state, totals, lines, spare, d);
-        if next.rule != 0 {
+        let Some(next) = quick(state, totals, lines, spare, d) else {
             return Reached {
                 done: i,
                 judge: state,
                 tally: totals,
             };
-        }
+        };
         state = next.judge;
         totals = next.tally;
-        i += 1;
     }
     Reached {
-        done: i,
+        done: n,
         judge: state,
         tally: totals,
     }

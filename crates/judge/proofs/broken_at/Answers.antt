@@ -2,4 +2,4 @@
 use Rattle.judge.proofs.broken_at.Goals as goal
 
 pub returns : goal.returns
-returns c = rw c.span_at-span.ensures
+returns c = rw c.span_at.ensures

@@ -30,8 +30,8 @@ pub returns-then-one-ne0 : goal.returns-then-one-ne0
 returns-then-one-ne0 c = let bytes = c.args.bytes.now in
     going_stops bytes _ _ _ c.loop-i.state c.loop-i.totals c.loop-i.i c.judge_one-one.result c.loop-i.invariant c.loop-i-test.true (part_record bytes c.loop-i.i c.loop-i.state c.loop-i.totals c.judge_one-one.result c.judge_one-one.ensures) c.if-one-ne0.true
 
-pub overflow_add-rest : goal.overflow_add-rest
-overflow_add-rest c = let w = c.loop-i.invariant.whole in omega arith
+pub overflow_add-at : goal.overflow_add-at
+overflow_add-at c = let w = c.loop-i.invariant.whole in omega arith
 
 pub slice_bounds-quick_run-count : goal.slice_bounds-quick_run-count
 slice_bounds-quick_run-count c = let w = c.loop-i.invariant.whole in omega arith

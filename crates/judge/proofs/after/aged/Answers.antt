@@ -31,4 +31,4 @@ pub overflow_cast-result : goal.overflow_cast-result
 overflow_cast-result c = omega (arith, young-of (goal.at.overflow_cast-result c).After-one_if, c.age_after-older.ensures.1)
 
 pub returns-in-Open : goal.returns-in-Open
-returns-in-Open c = simp (c.in-Open.is, c.one_if.ensures.0, c.age_after-older.ensures.0)
+returns-in-Open c = simp (c.in-Open.is, c.one_if.ensures.0, c.age_after-older.ensures.0, c.is_strobe-counts.ensures)

@@ -1,9 +1,12 @@
 -- `judge::after::next_since` meets its contract. Assumes nothing.
-use borrow.Author.Tests.{lt-ltb, le-ltb}
+use Rattle.std.proofs.Common.{ltb, sym, ◌∙◌, arith, ◌+◌}
+use borrow.Author.Tests.{ltb-true, ltb-false}
+use Rattle.std.proofs.Math.Nat.{min-eq_left, min-eq_right}
+use Rattle.basics.proofs.Bools.{by-test, cond-true, cond-false}
 use Rattle.judge.proofs.after.next_since.Goals as goal
 
-pub returns-then-n-lt3 : goal.returns-then-n-lt3
-returns-then-n-lt3 c = simp (lt-ltb _ _ c.if-n-lt3.true)
-
-pub returns-else-n-lt3 : goal.returns-else-n-lt3
-returns-else-n-lt3 c = simp (le-ltb _ _ c.if-n-lt3.false)
+pub returns : goal.returns
+returns c = let n = c.args.since + c.args.d in
+    by-test (ltb n 3)
+    (λ e. let low = ltb-true n 3 e in c.min.ensures ∙ min-eq_left (omega arith) ∙ sym (cond-true _ _ e))
+    (λ e. let high = ltb-false n 3 e in c.min.ensures ∙ min-eq_right (omega arith) ∙ sym (cond-false _ _ e))

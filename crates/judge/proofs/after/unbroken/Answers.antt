@@ -2,4 +2,4 @@
 use Rattle.judge.proofs.after.unbroken.Goals as goal
 
 pub returns : goal.returns
-returns c = simp (c.counted-totals.ensures, c.is_open.ensures)
+returns c = simp (c.counted-tally.ensures, c.is_open.ensures)

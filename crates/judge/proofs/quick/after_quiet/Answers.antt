@@ -1,4 +1,5 @@
 -- `judge::quick::after_quiet` meets its contract. Assumes nothing.
+use mathlib.Core.Path.{refl}
 use Rattle.judge.proofs.Kept.{quiet-leaves, quiet-young}
 use Rattle.judge.proofs.quick.after_quiet.Goals as goal
 
@@ -8,4 +9,4 @@ aged-transfer-requires c = (c.requires.plain.ready.judge.transfer, quiet-young c
 pub returns : goal.returns
 returns c = let a = c.args in
     simp (c.unbroken.ensures, c.state_after-next.ensures, c.waited-wave.ensures, c.aged-transfer.ensures)
-    (quiet-leaves a.judge a.tally a.lines a.d c.requires)
+    (refl, quiet-leaves a.judge a.tally a.lines a.d c.requires)
