@@ -1,5 +1,9 @@
 -- A walk over the first records of any recording says where they stand in it. Assumes nothing.
 use Rattle.std.proofs.Common.{◌≡◌, ℕ, zero, suc, ◌*◌, ◌^◌, ◌<◌, ◌≤◌, Bool, true, eqb, ltb, leb, sym, refl, ap, ◌∙◌, add-one, arith, ltb-true, lt-ltb, eq-eqb, ne_eqb, le-leb, leb-true}
+use Rattle.std.specs.Prelude.{Err}
+use Rattle.basics.specs.Answers.{Answer, accepted, refused, answered, refusal_number}
+use Rattle.basics.specs.declared.refusal.Refusal.{Refusal}
+use Rattle.basics.proofs.Refusals.{some_number}
 use Rattle.basics.specs.Order.{unless}
 use Rattle.basics.proofs.Bools.{choice, cond-true, cond-false, by-test, and_both, both_and}
 use Rattle.record.specs.declared.Record.{Record}
@@ -8,7 +12,7 @@ use Rattle.rules.specs.Verdict.{most_records}
 use Rattle.rules.proofs.Stamps.{difference_less}
 use Rattle.walk.specs.declared.Walk.{Walk}
 use Rattle.walk.specs.declared.Walked.{Walked}
-use Rattle.walk.specs.Walks.{walk_bounds, step_refusal, gap_before, onward, step_of, walked_to, walk_at}
+use Rattle.walk.specs.Walks.{walk_bounds, step_refusal, gap_before, onward, stayed, step_of, walked_to, walk_at}
 
 -- ---- a step
 pub in_bounds_lem : (w : Walk) → w.place ≤ most_records → w.cycle ≤ w.place * 2 ^ 32 → walk_bounds w ≡ true
@@ -19,15 +23,20 @@ pub none-refused : (w : Walk) → walk_bounds w ≡ true → w.place < most_reco
 unfolding step_refusal
 none-refused w b p = ap (λ (t : Bool). unless t 5 (unless (ltb w.place most_records) 8 0)) b ∙ ap (λ (t : Bool). unless t 8 0) (lt-ltb w.place most_records p)
 
-pub step_on : (w : Walk) (r : Record) → step_refusal w ≡ 0 → step_of w r ≡ record { number = 0; walk = onward w r; gap = gap_before w r.stamp }
+pub step_on : (w : Walk) (r : Record) → step_refusal w ≡ 0 → step_of w r ≡ accepted (record { walk = onward w r; gap = gap_before w r.stamp })
 unfolding step_of
 step_on w r z = cond-true _ _ (eq-eqb (step_refusal w) 0 z)
 
 -- a step that is refused hands the walk back
-pub step_refused : (w : Walk) (r : Record) (number : ℕ) → number ≡ step_refusal w → (number ≡ 0 → ⊥) → ◌≡◌ {A = Walked} (record { number = number; walk = w; gap = 0 }) (step_of w r)
+pub step_refused : (w : Walk) (r : Record) (number : ℕ) → number ≡ step_refusal w → (number ≡ 0 → ⊥) → refused number (stayed w) ≡ step_of w r
 unfolding step_of
 step_refused w r number e other =
-    ap (λ (k : ℕ). record { number = k; walk = w; gap = 0 }) e ∙ sym (cond-false _ _ (ne_eqb (step_refusal w) 0 (λ (z : step_refusal w ≡ 0). other (e ∙ z))))
+    ap (λ (k : ℕ). refused k (stayed w)) e ∙ sym (cond-false _ _ (ne_eqb (step_refusal w) 0 (λ (z : step_refusal w ≡ 0). other (e ∙ z))))
+
+pub step_err : (w : Walk) (r : Record) (e : Refusal) → refusal_number e ≡ step_refusal w → answered (stayed w) (Err e) ≡ step_of w r
+step_err w r e same =
+    let some = some_number e in
+    step_refused w r (refusal_number e) same (λ (z : refusal_number e ≡ 0). omega arith)
 
 -- one that isn't has room for a record more, and for the cycles before it
 pub record Room (w : Walk) : Type 0 where
@@ -91,7 +100,7 @@ place_at r (suc i) = refl
 
 -- EACH STEP of a walk over any recording, up to 2^30 records: it is accepted, its gap is the recording's, and the cycle that it comes to is the one in
 -- which the record stands
-pub step_at : (r : Lines) (i : ℕ) → i < most_records → step_of (walk_at r i) (r i) ≡ record { number = 0; walk = walk_at r (suc i); gap = gap r i }
+pub step_at : (r : Lines) (i : ℕ) → i < most_records → step_of (walk_at r i) (r i) ≡ accepted (record { walk = walk_at r (suc i); gap = gap r i })
 step_at r i lt =
     step_on (walk_at r i) (r i) (none-refused (walk_at r i) (bounds_at r i (omega arith)) (rw place_at lt))
     ∙ rw (onward_at r i, gap_at r i)
@@ -100,5 +109,5 @@ step_at r i lt =
 pub walked : (r : Lines) (n : ℕ) → n ≤ most_records → walked_to r n ≡ walk_at r n
 walked r zero h = refl
 walked r (suc n) h =
-    ap (λ (w : Walk). (step_of w (r n)).walk) (walked r n (omega arith))
-    ∙ ap (λ (w : Walked). w.walk) (step_at r n (omega arith))
+    ap (λ (w : Walk). (step_of w (r n)).value.walk) (walked r n (omega arith))
+    ∙ ap (λ (w : Answer Walked). w.value.walk) (step_at r n (omega arith))

@@ -1,6 +1,7 @@
 -- Walking a recording record by record, and what a walk says of the recording itself: document 01, "The line record": "The stamp counts 100 ns bus
 -- cycles. Cycles in which all 81 lines are inactive may be missing".
 use Rattle.std.specs.Prelude.{ℕ, zero, suc, ◌+◌, ◌*◌, ◌^◌, Bool, cond, ◌&&◌, ◌==◌, nat_le, nat_lt}
+use Rattle.basics.specs.Answers.{Answer, accepted, refused}
 use Rattle.basics.specs.Order.{unless}
 use Rattle.record.specs.declared.Record.{Record}
 use Rattle.record.specs.Packing.{blank}
@@ -31,18 +32,22 @@ gap_before w stamp = cond (w.place == 0) 0 (difference w.last.stamp stamp)
 unfoldable pub onward : Walk → Record → Walk
 onward w r = record { place = w.place + 1; cycle = w.cycle + gap_before w r.stamp; last = r }
 
--- what a step answers: a refusal hands the walk back, and gives 0 for the gap
-unfoldable pub step_of : Walk → Record → Walked
+-- what a refusal hands back: the walk, and 0 for the gap
+abbrev pub stayed : Walk → Walked
+stayed w = record { walk = w; gap = 0 }
+
+-- what a step answers
+unfoldable pub step_of : Walk → Record → Answer Walked
 step_of w r =
     cond (step_refusal w == 0)
-    (record { number = 0; walk = onward w r; gap = gap_before w r.stamp })
-    (record { number = step_refusal w; walk = w; gap = 0 })
+    (accepted (record { walk = onward w r; gap = gap_before w r.stamp }))
+    (refused (step_refusal w) (stayed w))
 
 -- ---- a recording
 -- the walk over the first n records of a recording, step by step
 abbrev pub walked_to : Lines → ℕ → Walk
 walked_to r zero = fresh_walk
-walked_to r (suc n) = (step_of (walked_to r n) (r n)).walk
+walked_to r (suc n) = (step_of (walked_to r n) (r n)).value.walk
 
 -- what it is to say: n records, and of the last one the cycle in which it stands in the recording, and its lines
 abbrev pub walk_at : Lines → ℕ → Walk
