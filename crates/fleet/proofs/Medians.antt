@@ -65,14 +65,3 @@ median_is xs h =
     let m = least_is (halving xs xs) (one-some (greatest_half xs h)) in
     let o = halving_of xs xs _ m.member in
     record { member = o.0; half = half_is xs _ o.1; first = λ x i k. m.none_below x (halving_in xs xs x i (half_so xs x k)) }
-
--- a search that begins at the greatest comes to the median
-least-from : (g : ℕ) (ys : List ℕ) → 0 < length ys → ((y : ℕ) → OneOf y ys → y ≤ g) → foldl min g ys ≡ least_of ys
-least-from g [] h b = absurd (omega arith)
-least-from g (y ∷ ys) h b = ap (λ (m : ℕ). foldl min m ys) (min-eq_right (b y (Memᴰ.head refl)))
-
-pub median_from : (xs : List ℕ) → foldl min (greatest_of xs) (halving xs xs) ≡ median_of xs
-median_from [] = refl
-median_from (x ∷ xs) =
-    let h : 0 < length (x ∷ xs) = omega arith in
-    least-from (greatest_of (x ∷ xs)) (halving (x ∷ xs) (x ∷ xs)) (one-some (greatest_half (x ∷ xs) h)) (λ y i. (greatest_is (x ∷ xs) h).none_above y (halving_of (x ∷ xs) (x ∷ xs) y i).0)

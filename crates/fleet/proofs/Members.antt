@@ -70,7 +70,7 @@ greatest_above m (y ∷ xs) =
     let h = greatest_least (max m y) xs in
     each (omega arith) (each (omega arith) (λ x i. greatest_above (max m y) xs x (Memᴰ.tail i)))
 
-greatest_start : (x : ℕ) (xs : List ℕ) → greatest_of (x ∷ xs) ≡ foldl max x xs
+pub greatest_start : (x : ℕ) (xs : List ℕ) → greatest_of (x ∷ xs) ≡ foldl max x xs
 greatest_start x xs = ap (λ (m : ℕ). foldl max m xs) (let z : max 0 x ≡ x = omega arith in z)
 
 pub greatest_is : (xs : List ℕ) → 0 < length xs → IsGreatest xs (greatest_of xs)

@@ -6,7 +6,7 @@ ghost use Rattle.std.specs.Prelude.{◌≡◌, cond, ◌+◌, ◌*◌, ◌^◌, 
 ghost use Rattle.fleet.specs.Figures.{least_of, greatest_of, total_of, within, half_within, median_of, summary_of};
 
 // What is said of the numbers; all of it is 0 where there are none.
-#[derive(Clone, Copy)]
+#[derive(Clone, Copy, PartialEq, Eq)]
 pub struct Summary {
     pub count: usize,
     pub least: u64,
@@ -16,56 +16,23 @@ pub struct Summary {
     pub remainder: u64,
 }
 
-fn lower(a: u64, b: u64) -> u64
-    ensures { result ≡ min a b }
-{
-    if a <= b { a } else { b }
-}
-
-fn higher(a: u64, b: u64) -> u64
-    ensures { result ≡ max a b }
-{
-    if a <= b { b } else { a }
-}
-
 fn least(figures: &[u64]) -> u64
     ensures { result ≡ least_of figures.now }
 {
-    if figures.len() == 0 {
-        return 0;
-    }
-    let mut low = figures[0];
-    let mut next = 1;
-    while next < figures.len() {
-        low = lower(low, figures[next]);
-        next += 1;
-    }
-    low
+    figures.iter().copied().min().unwrap_or(0)
 }
 
 fn greatest(figures: &[u64]) -> u64
     ensures { result ≡ greatest_of figures.now }
 {
-    let mut high = 0;
-    let mut next = 0;
-    while next < figures.len() {
-        high = higher(high, figures[next]);
-        next += 1;
-    }
-    high
+    figures.iter().copied().max().unwrap_or(0)
 }
 
 // How many don't exceed `most`.
 fn count_within(figures: &[u64], most: u64) -> usize
     ensures { (result ≡ within most figures.now) × (result ≤ length figures.now) }
 {
-    let mut count = 0;
-    let mut next = 0;
-    while next < figures.len() {
-        count += basics::one_if(figures[next] <= most) as usize;
-        next += 1;
-    }
-    count
+    figures.iter().filter(|x| **x <= most).count()
 }
 
 // Whether so many are at least half of all; without twice as many, which may not fit.
@@ -76,28 +43,23 @@ fn is_half(count: usize, all: usize) -> bool
     all - count <= count
 }
 
-// The lower of the two where at least half of the numbers don't exceed x, and otherwise the one in hand.
-fn lower_if_half(figures: &[u64], low: u64, x: u64) -> u64
-    ensures { result ≡ cond (half_within figures.now x) (min low x) low }
+// At least half of the numbers don't exceed x.
+fn is_half_within(figures: &[u64], x: u64) -> bool
+    ensures { result ≡ half_within figures.now x }
 {
-    let count = count_within(figures, x);
-    if is_half(count, figures.len()) {
-        return lower(low, x);
-    }
-    low
+    is_half(count_within(figures, x), figures.len())
 }
 
-// All of them don't exceed the greatest, so it is where the search begins.
+// The least of the numbers that at least half of them don't exceed.
 fn median(figures: &[u64]) -> u64
     ensures { result ≡ median_of figures.now }
 {
-    let mut low = greatest(figures);
-    let mut next = 0;
-    while next < figures.len() {
-        low = lower_if_half(figures, low, figures[next]);
-        next += 1;
-    }
-    low
+    figures
+        .iter()
+        .copied()
+        .filter(|x| is_half_within(figures, *x))
+        .min()
+        .unwrap_or(0)
 }
 
 // The sum of some of n numbers as n times the mean, and what is left.
@@ -133,10 +95,8 @@ fn share_of(figures: &[u64]) -> Share
         mean: 0,
         remainder: 0,
     };
-    let mut next = 0;
-    while next < figures.len() {
-        share = with_figure(share, figures.len() as u64, figures[next]);
-        next += 1;
+    for &x in figures {
+        share = with_figure(share, figures.len() as u64, x);
     }
     share
 }
