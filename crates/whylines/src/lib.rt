@@ -3,12 +3,12 @@
 #![tactic(auto)]
 
 ghost use Rattle.std.specs.Prelude.{◌≡◌, length};
+ghost use Rattle.text.specs.Pages.{grown};
 ghost use Rattle.text.specs.Places.{front, moved_by, put_at};
-ghost use Rattle.printed.specs.Adding.{Adds};
 ghost use Rattle.whylines.specs.Lines.{why_line, third_line, reason_lines};
 
 use rules::Verdict;
-use text::Place;
+use text::{Page, Place};
 use why::Figures;
 use witness::Reason;
 
@@ -16,24 +16,20 @@ use witness::Reason;
 const PAGE: usize = 320;
 
 // The line of a breach's figures.
-fn put_figures(page: &mut [u8], place: Place, figures: Figures) -> Place
-    ensures { Adds page.old place page.new result (why_line figures) }
+fn put_figures<const N: usize>(page: &mut Page<N>, figures: Figures)
+    ensures { page.new ≡ grown N page.old (why_line figures) }
 {
-    let found = text::put_named(page, place, b"found ", figures.found);
-    let bound = text::put_named(page, found, b" bound ", figures.bound);
-    text::put_word(page, bound, b"\n")
+    page.put_named(b"found ", figures.found);
+    page.put_named(b" bound ", figures.bound);
+    page.put(b"\n");
 }
 
 // The third line, which a breach has and nothing else.
-fn put_third(page: &mut [u8], place: Place, verdict: Verdict, figures: Figures) -> Place
-    ensures { Adds page.old place page.new result (third_line verdict figures) }
+fn put_third<const N: usize>(page: &mut Page<N>, verdict: Verdict, figures: Figures)
+    ensures { page.new ≡ grown N page.old (third_line verdict figures) }
 {
-    match verdict {
-        Verdict::Conforming => place,
-        Verdict::Breach(_) => put_figures(page, place, figures),
-        Verdict::OutOfBounds => place,
-        Verdict::TooMany => place,
-        Verdict::Torn => place,
+    if let Verdict::Breach(_) = verdict {
+        put_figures(page, figures);
     }
 }
 
@@ -42,12 +38,8 @@ fn put_third(page: &mut [u8], place: Place, verdict: Verdict, figures: Figures) 
 pub fn put_reason(buffer: &mut [u8], reason: Reason) -> Place
     ensures { (result ≡ moved_by (length buffer.old) front (length (reason_lines reason))) × (buffer.new ≡ put_at buffer.old front (reason_lines reason)) }
 {
-    let ending = reason.ending;
-    let figures = reason.figures;
-    let verdict = ending.verdict;
-    let mut page = [0u8; PAGE];
-    let judged = printed::put_ending(&mut page, ending);
-    let all = put_third(&mut page, judged, verdict, figures);
-    let size = all.at;
-    text::put_word(buffer, Place::front(), &page[..size])
+    let mut page = Page::<PAGE>::new();
+    printed::add_ending(&mut page, reason.ending);
+    put_third(&mut page, reason.ending.verdict, reason.figures);
+    page.put_into(buffer, Place::front())
 }

@@ -1,11 +1,9 @@
 -- `whylines::put_figures` meets its contract: each piece put behind the one before. Assumes nothing.
-use Rattle.printed.specs.Lines.{named}
-use Rattle.printed.proofs.AddingLaws.{adds_put, adds_then, adds_is}
+use Rattle.text.proofs.PageLaws.{grown_then}
 use Rattle.whylines.specs.Lines.{why_line}
 use Rattle.whylines.proofs.put_figures.Goals as goal
 
 pub returns : goal.returns
 unfolding why_line
-returns c = let a = c.args in
-    let both = adds_then (adds_is (named "found " a.figures.found) (adds_put c.put_named-found.ensures)) (adds_is (named " bound " a.figures.bound) (adds_put c.put_named-bound.ensures)) in
-    adds_then both (adds_put c.put_word.ensures)
+returns g c = let both = rw (c.put_named.ensures, grown_then) at c.put_named-2.ensures in
+    rw (both, grown_then) at c.put.ensures
