@@ -7,6 +7,3 @@ use Rattle.spurseconds.proofs.tell_all.Given as goal
 
 abbrev pub invariant-loop-next : goal.invariant-loop-next
 invariant-loop-next g l = (length l.word ≡ 4096) × Telling l.words l.next
-
-abbrev pub decreases-loop-next : goal.decreases-loop-next
-decreases-loop-next g l = l.words - l.next
