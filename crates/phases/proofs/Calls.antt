@@ -1,24 +1,28 @@
 -- What the functions on a state put together is what the definitions say. Assumes nothing.
-use Prim.Native.Nat.{ℕ, ◌≤◌}
+use Prim.Native.Nat.{ℕ, ◌≤◌, ◌<◌}
 use mathlib.Core.Bool.{Bool, true, false, not, cond, ◌&&◌}
 use mathlib.Core.List.{List}
 use mathlib.Core.Path.{◌≡◌, refl, sym, ap, subst, ◌∙◌}
 use native.Mathlib.Omega.{arith}
+use lib.ListN.{length, get_or, replicate, get_or-replicate}
+use lib.Seq.{ext_get_or}
 use lib.Dec.{eqb, leb}
 use borrow.Author.Tests.{leb-true, eq-eqb, ne_eqb}
 use Rattle.basics.specs.Numbers.{lawful_limit}
 use Rattle.basics.specs.Order.{unless}
+use Rattle.std.specs.Result.{IsOk}
+use Rattle.std.proofs.Common.{Option, None, Result, Ok, Err}
+use Rattle.basics.specs.declared.refusal.Refusal.{Refusal}
+use Rattle.basics.specs.Answers.{Answer, refusal_number, accepted, refused, answered}
+use Rattle.basics.proofs.Refusals.{some_number}
 use Rattle.basics.proofs.Bools.{by-test, cond-true, cond-false, and_both}
 use Rattle.rules.specs.Exact.{joined}
-use Rattle.rules.proofs.Laws.{unless-zero}
 use Rattle.record.specs.declared.Record.{Record}
 use Rattle.feeding.specs.declared.Stream.{Stream}
-use Rattle.feeding.specs.declared.Fed.{Fed}
 use Rattle.feeding.specs.declared.Ending.{Ending}
-use Rattle.feeding.specs.State.{goes, stream_bounds, no_stream, fresh_of, finish_of}
+use Rattle.feeding.specs.State.{goes, stream_bounds, no_stream, fresh_of, feed_of, fed_of, finish_of}
 use Rattle.marks.specs.declared.Mark.{Mark}
 use Rattle.marks.specs.declared.Marks.{Marks}
-use Rattle.marks.specs.declared.Phased.{Phased}
 use Rattle.marks.specs.declared.Phases.{Phases}
 use Rattle.marks.specs.declared.Report.{Report}
 use Rattle.marks.specs.declared.Search.{Search}
@@ -27,7 +31,7 @@ use Rattle.marks.specs.declared.Why.TheVariants.{Complete}
 use Rattle.marks.specs.Marks.{mark_at}
 use Rattle.marks.specs.Pieces.{fed_all}
 use Rattle.marks.specs.Report.{diffs_of, Right}
-use Rattle.marks.specs.State.{some_marks, named_to, lawful_marks, begin_refusal, seen_of, all_found, under_way, rises_to, phases_bounds, with_stream, saw_of, fresh_search, fresh_phases, no_marks, no_phases, begun_of, fed_phases, phased_of, lacking, report_with, no_report, report_of}
+use Rattle.marks.specs.State.{some_marks, named_to, lawful_marks, begin_refusal, seen_of, all_found, under_way, rises_to, phases_bounds, with_stream, saw_of, fresh_search, fresh_phases, no_phases, begun_of, lacking, report_with, no_report, report_of}
 use Rattle.marks.proofs.Phasing.{phasing}
 use Rattle.phases.specs.Parts.{Fit}
 
@@ -97,59 +101,71 @@ bounded p e =
     record { fit = (c.0, d); few = omega arith; rises = a.1 }
 
 -- ---- the calls
-module _ (limit : ℕ) (m : Marks) (none : Fed) (ze : none ≡ fresh_of 0) where
-  none_is : none.stream ≡ no_stream
-  unfolding fresh_of
-  none_is = ap (λ (f : Fed). f.stream) ze
+-- the judge takes what it is fed within its bounds
+pub fed_ok : (s : Stream) (x : List ℕ) (r : Result Stream Refusal) → stream_bounds s ≡ true → answered s r ≡ fed_of s x → IsOk r
+unfolding fed_of
+fed_ok s x (Ok next) e answer = refl
+fed_ok s x (Err r) e answer =
+    let some = some_number r in
+    let none : refusal_number r ≡ 0 = ap (λ (a : Answer Stream). a.number) (answer ∙ cond-true _ _ e) in
+    absurd (omega arith)
 
-  refused_is : (n : ℕ) (x : Phased) → (n ≡ 0 → ⊥) → begin_refusal limit m ≡ n → x ≡ record { number = n; phases = record { stream = none.stream; marks = no_marks; search = fresh_search } } → x ≡ begun_of limit m
-  unfolding begun_of no_phases
-  refused_is n x ne e xe =
-      xe
-      ∙ ap (λ (s : Stream). record { number = n; phases = record { stream = s; marks = no_marks; search = fresh_search } }) none_is
-      ∙ ap (λ (k : ℕ). record { number = k; phases = record { stream = no_stream; marks = no_marks; search = fresh_search } }) (sym e)
-      ∙ sym (cond-false _ _ (ap (λ (k : ℕ). eqb k 0) e ∙ ne_eqb n 0 ne))
+pub fed-taken : (s : Stream) (x : List ℕ) (r : Result Stream Refusal) (next : Stream) → stream_bounds s ≡ true → answered s r ≡ fed_of s x → r ≡ Ok next → next ≡ feed_of s x
+unfolding fed_of
+fed-taken s x r next e answer is = ap (λ (a : Answer Stream). a.value) (sym (ap (answered s) is) ∙ answer ∙ cond-true _ _ e)
 
-  module _ (some : Bool) (se : some ≡ some_marks m) where
-    pub refused_9 : (x : Phased) → some ≡ false → x ≡ record { number = 9; phases = record { stream = none.stream; marks = no_marks; search = fresh_search } } → x ≡ begun_of limit m
+-- a search by its parts is the one that has found nothing
+pub fresh_is : (x : Search) → length x.spans ≡ 32 → ((i d : ℕ) → i < 32 → get_or x.spans i d ≡ 0) → x.found ≡ 0 → x.pending ≡ None → x ≡ fresh_search
+fresh_is x size zeros found pending =
+    same x.spans (replicate 32 0) x.found 0 x.pending None
+    (ext_get_or 0 x.spans (replicate 32 0) size (λ i lt. zeros i 0 (omega arith) ∙ sym (get_or-replicate 32 i 0 0 (omega arith))))
+    found pending
+  where
+    same : (a b : List ℕ) (n k : ℕ) (v w : Option ℕ) → a ≡ b → n ≡ k → v ≡ w → ◌≡◌ {A = Search} (record { spans = a; found = n; pending = v }) (record { spans = b; found = k; pending = w })
+    same a b n k v w p q r = cc
+
+module _ (limit : ℕ) (m : Marks) where
+  refused_is : (n : ℕ) → (n ≡ 0 → ⊥) → begin_refusal limit m ≡ n → refused n no_phases ≡ begun_of limit m
+  unfolding begun_of
+  refused_is n ne e =
+      ap (λ (k : ℕ). refused k no_phases) (sym e) ∙ sym (cond-false _ _ (ap (λ (k : ℕ). eqb k 0) e ∙ ne_eqb n 0 ne))
+
+  pub refused_9 : some_marks m ≡ false → refused 9 no_phases ≡ begun_of limit m
+  unfolding begin_refusal
+  refused_9 off = refused_is 9 (λ z. absurd (omega arith)) (ap (λ (b : Bool). unless b 9 (unless (named_to m m.count) 2 (unless (lawful_limit limit) 3 0))) off)
+
+  module _ (on : some_marks m ≡ true) where
+    past_9 : begin_refusal limit m ≡ unless (named_to m m.count) 2 (unless (lawful_limit limit) 3 0)
     unfolding begin_refusal
-    refused_9 x off xe = refused_is 9 x (λ z. absurd (omega arith)) (ap (λ (b : Bool). unless b 9 (unless (named_to m m.count) 2 (unless (lawful_limit limit) 3 0))) (sym se ∙ off)) xe
+    past_9 = ap (λ (b : Bool). unless b 9 (unless (named_to m m.count) 2 (unless (lawful_limit limit) 3 0))) on
 
-    module _ (on : some ≡ true) (named : Bool) (ne : named ≡ named_to m m.count) where
-      past_9 : some_marks m ≡ true
-      past_9 = sym se ∙ on
+    pub refused_2 : named_to m m.count ≡ false → refused 2 no_phases ≡ begun_of limit m
+    refused_2 off = refused_is 2 (λ z. absurd (omega arith)) (past_9 ∙ ap (λ (b : Bool). unless b 2 (unless (lawful_limit limit) 3 0)) off)
 
-      pub refused_2 : (x : Phased) → named ≡ false → x ≡ record { number = 2; phases = record { stream = none.stream; marks = no_marks; search = fresh_search } } → x ≡ begun_of limit m
-      unfolding begin_refusal
-      refused_2 x off xe = refused_is 2 x (λ z. absurd (omega arith)) (ap (λ (b : Bool). unless b 9 (unless (named_to m m.count) 2 (unless (lawful_limit limit) 3 0))) past_9 ∙ ap (λ (b : Bool). unless b 2 (unless (lawful_limit limit) 3 0)) (sym ne ∙ off)) xe
+    module _ (yes : named_to m m.count ≡ true) where
+      past_2 : begin_refusal limit m ≡ unless (lawful_limit limit) 3 0
+      past_2 = past_9 ∙ ap (λ (b : Bool). unless b 2 (unless (lawful_limit limit) 3 0)) yes
 
-      module _ (yes : named ≡ true) (begun : Fed) (be : begun ≡ fresh_of limit) where
-        past_2 : begin_refusal limit m ≡ unless (lawful_limit limit) 3 0
-        unfolding begin_refusal
-        past_2 = ap (λ (b : Bool). unless b 9 (unless (named_to m m.count) 2 (unless (lawful_limit limit) 3 0))) past_9 ∙ ap (λ (b : Bool). unless b 2 (unless (lawful_limit limit) 3 0)) (sym ne ∙ yes)
+      -- what the judge refuses, this does
+      pub refused_3 : (r : Refusal) → answered no_stream (Err r) ≡ fresh_of limit → answered no_phases (Err r) ≡ begun_of limit m
+      unfolding fresh_of
+      refused_3 r e =
+          by-test (lawful_limit limit)
+          (λ yes. let some = some_number r in
+          let none : refusal_number r ≡ 0 = ap (λ (a : Answer Stream). a.number) (e ∙ cond-true _ _ yes) in
+          absurd (omega arith))
+          (λ no. ap (λ (k : ℕ). refused k no_phases) (ap (λ (a : Answer Stream). a.number) (e ∙ cond-false _ _ no))
+          ∙ refused_is 3 (λ z. absurd (omega arith)) (past_2 ∙ ap (λ (b : Bool). unless b 3 0) no))
 
-        number_is : begun.number ≡ unless (lawful_limit limit) 3 0
-        unfolding fresh_of
-        number_is = ap (λ (f : Fed). f.number) be ∙ by-test (lawful_limit limit) (λ e. ap (λ (f : Fed). f.number) (cond-true _ _ e) ∙ sym (ap (λ (b : Bool). unless b 3 0) e)) (λ e. ap (λ (f : Fed). f.number) (cond-false _ _ e) ∙ sym (ap (λ (b : Bool). unless b 3 0) e))
-
-        pub refused_3 : (x : Phased) → (begun.number ≡ 0 → ⊥) → x ≡ record { number = begun.number; phases = record { stream = none.stream; marks = no_marks; search = fresh_search } } → x ≡ begun_of limit m
-        refused_3 x off xe = refused_is begun.number x off (past_2 ∙ sym number_is) xe
-
-        pub begun_is : (s : Search) → begun.number ≡ 0 → s ≡ fresh_search → ◌≡◌ {A = Phased} (record { number = 0; phases = record { stream = begun.stream; marks = m; search = s } }) (begun_of limit m)
-        unfolding begun_of fresh_phases fresh_of
-        begun_is s z xe =
-            let lawful : lawful_limit limit ≡ true = (unless-zero (lawful_limit limit) 3 0 refl (sym number_is ∙ z)).0 in
-            ap (λ (y : Search). record { number = 0; phases = record { stream = begun.stream; marks = m; search = y } }) xe
-            ∙ ap (λ (f : Fed). record { number = 0; phases = record { stream = f.stream; marks = m; search = fresh_search } }) (be ∙ cond-true _ _ lawful)
-            ∙ sym (cond-true _ _ (eq-eqb (begin_refusal limit m) 0 (past_2 ∙ sym number_is ∙ z)))
-
-pub fed-within : (p x : Phases) (piece : List ℕ) (b : Bool) → b ≡ phases_bounds p → b ≡ true → x ≡ fed_phases p piece → ◌≡◌ {A = Phased} (record { number = 0; phases = x }) (phased_of p piece)
-unfolding phased_of
-fed-within p x piece b be on xe = ap (λ (y : Phases). record { number = 0; phases = y }) xe ∙ sym (cond-true _ _ (sym be ∙ on))
-
-pub fed_out : (p : Phases) (piece : List ℕ) (b : Bool) → b ≡ phases_bounds p → b ≡ false → ◌≡◌ {A = Phased} (record { number = 5; phases = p }) (phased_of p piece)
-unfolding phased_of
-fed_out p piece b be off = sym (cond-false _ _ (sym be ∙ off))
+      -- and where it begins, this does
+      pub begun_is : (s : Stream) (x : Search) → answered no_stream (Ok s) ≡ fresh_of limit → x ≡ fresh_search → accepted (record { stream = s; marks = m; search = x }) ≡ begun_of limit m
+      unfolding begun_of fresh_phases fresh_of
+      begun_is s x e xe =
+          by-test (lawful_limit limit)
+          (λ yes. ap (λ (y : Search). accepted (record { stream = s; marks = m; search = y })) xe
+          ∙ ap (λ (y : Stream). accepted (record { stream = y; marks = m; search = fresh_search })) (ap (λ (a : Answer Stream). a.value) (e ∙ cond-true _ _ yes))
+          ∙ sym (cond-true _ _ (eq-eqb (begin_refusal limit m) 0 (past_2 ∙ ap (λ (b : Bool). unless b 3 0) yes))))
+          (λ no. let one : 0 ≡ 3 = ap (λ (a : Answer Stream). a.number) (e ∙ cond-false _ _ no) in absurd (omega arith))
 
 -- ---- the report
 -- whoever fed pieces is told what is right

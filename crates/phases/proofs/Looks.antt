@@ -1,19 +1,28 @@
 -- What the functions on marks and records put together is what the definitions say. Assumes nothing.
 use Prim.Native.Nat.{ℕ, zero, suc, ◌+◌, ◌-◌, ◌*◌, ◌/◌, ◌%◌, ◌≤◌, ◌<◌}
-use mathlib.Core.Bool.{Bool, true, false, not, cond, ◌&&◌, ◌||◌}
+use mathlib.Core.Bool.{Bool, true, false, false≢true, not, cond, ◌&&◌, ◌||◌}
 use mathlib.Core.List.{List}
 use mathlib.Core.Path.{◌≡◌, refl, sym, ap, subst, ◌∙◌}
 use mathlib.Core.Logic.{inl, inr}
 use native.Mathlib.Omega.{arith}
 use lib.ListN.{length, take, drop, get_or, set}
+use lib.Seq.{length-take-le, get_or-take}
 use lib.Dec.{eqb, leb}
-use borrow.Author.Tests.{leb-true}
-use Rattle.basics.proofs.Bools.{cond-true, cond-false, and_both}
+use borrow.Author.Tests.{leb-true, le-leb}
+use Rattle.std.specs.List.{All}
+use Rattle.std.specs.List.Sorted.{IsNonDecreasing}
+use Rattle.std.proofs.lemmas.List.Elements.{All-from_get_or}
+use Rattle.std.proofs.Common.{◌↔◌, MatchBool, Option, None, Some, Result, Ok, Err}
+use Rattle.basics.specs.declared.refusal.Refusal.{Refusal}
+use Rattle.basics.specs.declared.refusal.Refusal.TheVariants.{Length, Place, Value, Code, Bounds, Room, Incoherent, TooMany, Marks as NoMarks}
+use Rattle.basics.proofs.Bools.{by-test, cond-true, cond-false, and_both, both_and}
 use Rattle.record.specs.declared.Record.{Record}
 use Rattle.record.specs.Packing.{lines_of, spare_of}
+use denote.Enum.Bare.{sameb}
+use Rattle.codes.specs.contracts.Unit.{the_type}
+use Rattle.codes.specs.declared.Unit.{Unit}
+use Rattle.codes.specs.declared.Unit.TheVariants.{Byte, Halfword, Word, Two, Four, Eight, Sixteen}
 use Rattle.codes.specs.declared.Meaning.{Meaning}
-use Rattle.codes.specs.declared.Decoded.{Decoded}
-use Rattle.codes.specs.declared.Decoded.TheVariants.{Means, NoMeaning}
 use Rattle.codes.specs.Start.{decode_of, decoded_answer}
 use Rattle.rules.specs.Recording.{recording_in}
 use Rattle.rules.specs.Run.{Taken}
@@ -21,25 +30,44 @@ use Rattle.rules.proofs.Places.{below}
 use Rattle.judge.proofs.Runs.{record_of}
 use Rattle.marks.specs.declared.Mark.{Mark}
 use Rattle.marks.specs.declared.Marks.{Marks}
-use Rattle.marks.specs.declared.Pending.{Pending}
-use Rattle.marks.specs.declared.Pending.TheVariants.{Nothing, Since}
 use Rattle.marks.specs.declared.Search.{Search}
-use Rattle.marks.specs.Marks.{is_word, mark_at, writes_to, is_start_of}
+use Rattle.marks.specs.Marks.{is_word, zero_mark, mark_at, writes_to, is_start_of}
 use Rattle.marks.specs.Report.{diffs_of}
 use Rattle.marks.specs.State.{named_to, waiting, acked, seen_of, rises_to}
-use Rattle.phases.specs.Parts.{matters, Reaches}
+use Rattle.phases.specs.Parts.{Named, matters, Reaches}
 
 -- ---- a mark's START
-pub writes_means : (m : Mark) (n : Meaning) (d : Decoded) (word : Bool) → d ≡ Means n → word ≡ is_word n.operation.unit
+-- whether a unit is the word
+pub word_is : (u : Unit) → sameb the_type u Word ≡ is_word u
+word_is Byte = refl
+word_is Halfword = refl
+word_is Word = refl
+word_is Two = refl
+word_is Four = refl
+word_is Eight = refl
+word_is Sixteen = refl
+
+pub writes_means : (m : Mark) (n : Meaning) (d : Result Meaning Refusal) (word : Bool) → d ≡ Ok n → word ≡ is_word n.operation.unit
     → (n.operation.write && word && eqb (n.operation.address / 1048576) (0xF00 + m.slot * 16) && eqb (n.operation.address / 4 % 16) m.number) ≡ writes_to m (decoded_answer d)
 unfolding writes_to
 writes_means m n d word de we = rw (de, we)
 
-pub writes-none : (m : Mark) (d : Decoded) → d ≡ NoMeaning → false ≡ writes_to m (decoded_answer d)
+pub writes-none : (m : Mark) (d : Result Meaning Refusal) (r : Refusal) → d ≡ Err r → false ≡ writes_to m (decoded_answer d)
 unfolding writes_to
-writes-none m d de = rw de
+writes-none m d r de = none r ∙ sym (ap (λ (x : Result Meaning Refusal). writes_to m (decoded_answer x)) de)
+  where
+    none : (r : Refusal) → false ≡ writes_to m (decoded_answer (Err r))
+    none Length = refl
+    none Place = refl
+    none Value = refl
+    none Code = refl
+    none Bounds = refl
+    none Room = refl
+    none Incoherent = refl
+    none TooMany = refl
+    none NoMarks = refl
 
-pub start_is : (m : Mark) (r : Record) (d : Decoded) (b : Bool) → (r.start && not r.ack && not r.reset) ≡ true → decoded_answer d ≡ decode_of r.tm1 r.tm0 r.ad → b ≡ writes_to m (decoded_answer d) → b ≡ is_start_of m r
+pub start_is : (m : Mark) (r : Record) (d : Result Meaning Refusal) (b : Bool) → (r.start && not r.ack && not r.reset) ≡ true → decoded_answer d ≡ decode_of r.tm1 r.tm0 r.ad → b ≡ writes_to m (decoded_answer d) → b ≡ is_start_of m r
 unfolding is_start_of
 start_is m r d b e de be = be ∙ ap (writes_to m) de ∙ sym (ap (λ (x : Bool). x && writes_to m (decode_of r.tm1 r.tm0 r.ad)) e)
 
@@ -48,23 +76,23 @@ unfolding is_start_of
 start_none m r e = sym (ap (λ (x : Bool). x && writes_to m (decode_of r.tm1 r.tm0 r.ad)) e)
 
 -- ---- the search
-pub acked-found : (s : Search) (span : ℕ) (b : Bool) → s.pending ≡ Since span → b ≡ true → ◌≡◌ {A = Search} (record { spans = set s.spans s.found span; found = s.found + 1; pending = Nothing }) (acked s s.pending b)
+pub acked-found : (s : Search) (span : ℕ) (b : Bool) → s.pending ≡ Some span → b ≡ true → ◌≡◌ {A = Search} (record { spans = set s.spans s.found span; found = s.found + 1; pending = None }) (acked s s.pending b)
 acked-found s span b pe be = rw (pe, be)
 
-pub acked-failed : (s : Search) (span : ℕ) (b : Bool) (r : Search) → s.pending ≡ Since span → b ≡ false → r ≡ waiting s Nothing → r ≡ acked s s.pending b
+pub acked-failed : (s : Search) (span : ℕ) (b : Bool) (r : Search) → s.pending ≡ Some span → b ≡ false → r ≡ waiting s None → r ≡ acked s s.pending b
 acked-failed s span b r pe be re = re ∙ rw (pe, be)
 
-pub acked-none : (s : Search) (b : Bool) (r : Search) → s.pending ≡ Nothing → r ≡ waiting s Nothing → r ≡ acked s s.pending b
+pub acked-none : (s : Search) (b : Bool) (r : Search) → s.pending ≡ None → r ≡ waiting s None → r ≡ acked s s.pending b
 acked-none s b r pe re = re ∙ rw pe
 
 module _ (m : Mark) (s : Search) (r : Record) (span : ℕ) where
-  pub seen-reset : (x : Search) → r.reset ≡ true → x ≡ waiting s Nothing → x ≡ seen_of m s r span
+  pub seen-reset : (x : Search) → r.reset ≡ true → x ≡ waiting s None → x ≡ seen_of m s r span
   unfolding seen_of
   seen-reset x e xe = xe ∙ sym (cond-true _ _ e)
 
-  pub seen_start : (x : Search) (b : Bool) (w : Pending) → r.reset ≡ false → r.start ≡ true → b ≡ is_start_of m r → w ≡ cond b (Since span) Nothing → x ≡ waiting s w → x ≡ seen_of m s r span
+  pub seen_start : (x : Search) (b : Bool) (w : Option ℕ) → r.reset ≡ false → r.start ≡ true → b ≡ is_start_of m r → w ≡ cond b (Some span) None → x ≡ waiting s w → x ≡ seen_of m s r span
   unfolding seen_of
-  seen_start x b w nr st be we xe = xe ∙ ap (waiting s) (we ∙ ap (λ (y : Bool). cond y (Since span) Nothing) be) ∙ sym (cond-false _ _ nr ∙ cond-true _ _ st)
+  seen_start x b w nr st be we xe = xe ∙ ap (waiting s) (we ∙ ap (λ (y : Bool). cond y (Some span) None) be) ∙ sym (cond-false _ _ nr ∙ cond-true _ _ st)
 
   pub seen-ack : (x : Search) → r.reset ≡ false → r.start ≡ false → r.ack ≡ true → x ≡ acked s s.pending (r.tm1 && r.tm0) → x ≡ seen_of m s r span
   unfolding seen_of
@@ -105,13 +133,12 @@ reaches_all m w s i h le =
     record { within = omega arith; some = λ z. z; dull = λ k less. h k (omega arith); ends = inr refl }
 
 -- ---- spans
-pub rises_more : (l : List ℕ) (i : ℕ) → 1 ≤ i → (rises_to l i && leb (get_or l (i - 1) 0) (get_or l i 0)) ≡ rises_to l (i + 1)
-rises_more l zero le = absurd (omega arith)
-rises_more l (suc zero) le = refl
-rises_more l (suc (suc n)) le =
-    let a : suc (suc n) - 1 ≡ suc n = omega arith in
-    let b : suc (suc n) + 1 ≡ suc (suc (suc n)) = omega arith in
-    ap (λ (k : ℕ). rises_to l (suc (suc n)) && leb (get_or l k 0) (get_or l (suc (suc n)) 0)) a ∙ ap (rises_to l) (sym b)
+-- what is in order at each place is so up to n
+rises_from : (l : List ℕ) (n : ℕ) → ((i : ℕ) → suc i < n → get_or l i 0 ≤ get_or l (suc i) 0) → rises_to l n ≡ true
+rises_from l zero up = refl
+rises_from l (suc zero) up = refl
+rises_from l (suc (suc n)) up =
+    both_and _ _ (rises_from l (suc n) (λ i lt. up i (omega arith))) (le-leb (get_or l n 0) (get_or l (suc n) 0) (up n (omega arith)))
 
 -- where a loop from 1 up to n ends
 abbrev pub up_to : ℕ → ℕ
@@ -134,6 +161,25 @@ rises_at l (suc (suc n)) i e lt =
     below i n (let y : i < suc n = omega arith in y) (λ less. rises_at l (suc n) i z.0 (let y : suc i < suc n = omega arith in y))
     (λ q. subst (λ k. get_or l k 0 ≤ get_or l (suc k) 0) (sym q) (leb-true _ _ z.1))
 
+-- what the library finds of the first n spans
+pub rises_is : (l : List ℕ) (n : ℕ) (b : Bool) → n ≤ length l
+    → MatchBool b (IsNonDecreasing (take n l)) ((k : ℕ) × (k + 1 < length (take n l)) × ((d : ℕ) → get_or (take n l) (k + 1) d < get_or (take n l) k d)) → b ≡ rises_to l n
+rises_is l n true fits up =
+    let size = length-take-le n l fits in
+    sym (rises_from l n (λ i lt. let z = up i (suc i) 0 (omega arith) (omega arith) in
+    let a = get_or-take n l i 0 (omega arith) in
+    let b = get_or-take n l (suc i) 0 lt in
+    omega arith))
+rises_is l n false fits (k, lt, down) =
+    let size = length-take-le n l fits in
+    by-test (rises_to l n)
+    (λ e. let up = rises_at l n k e (omega arith) in
+    let less : get_or (take n l) (suc k) 0 < get_or (take n l) k 0 = subst (λ i. get_or (take n l) i 0 < get_or (take n l) k 0) (let z : k + 1 ≡ suc k = omega arith in z) (down 0) in
+    let a = get_or-take n l k 0 (omega arith) in
+    let b = get_or-take n l (suc k) 0 (omega arith) in
+    absurd (omega arith))
+    sym
+
 pub rises_before : (l : List ℕ) (n i : ℕ) → rises_to l n ≡ true → 1 ≤ i → i < n → get_or l (i - 1) 0 ≤ get_or l i 0
 rises_before l n zero e low lt = absurd (omega arith)
 rises_before l n (suc i) e low lt = subst (λ k. get_or l k 0 ≤ get_or l (suc i) 0) (let z : i ≡ suc i - 1 = omega arith in z) (rises_at l n i e lt)
@@ -148,9 +194,26 @@ diffs-more l d (suc i) le e =
     ∙ ap (diffs_of l) (sym b)
 
 -- ---- marks
-pub named_more : (m : Marks) (i : ℕ) (k : Mark) (b : Bool) → k ≡ mark_at m i → b ≡ named_to m i → (b && leb k.slot 15 && leb k.number 15) ≡ named_to m (i + 1)
-named_more m i k b ke be =
-    let n : i + 1 ≡ suc i = omega arith in
-    ap (λ (x : Mark). b && leb x.slot 15 && leb x.number 15) ke
-    ∙ ap (λ (x : Bool). x && leb (mark_at m i).slot 15 && leb (mark_at m i).number 15) be
-    ∙ ap (named_to m) (sym n)
+named_from : (m : Marks) (n : ℕ) → ((i : ℕ) → i < n → Named (mark_at m i)) → named_to m n ≡ true
+named_from m zero all = refl
+named_from m (suc n) all =
+    let here = all n (omega arith) in
+    both_and _ _ (both_and _ _ (named_from m n (λ i lt. all i (omega arith))) (le-leb _ 15 here.0)) (le-leb _ 15 here.1)
+
+named-each : (m : Marks) (n i : ℕ) → named_to m n ≡ true → i < n → Named (mark_at m i)
+named-each m zero i e lt = absurd (omega arith)
+named-each m (suc n) i e lt =
+    let outer = and_both _ (leb (mark_at m n).number 15) e in
+    let inner = and_both (named_to m n) (leb (mark_at m n).slot 15) outer.0 in
+    below i n lt (λ less. named-each m n i inner.0 less) (λ q. subst (λ k. Named (mark_at m k)) (sym q) (leb-true _ 15 inner.1, leb-true _ 15 outer.1))
+
+-- what is found of the first marks
+pub named_is : (m : Marks) (b : Bool) → m.count ≤ length m.marks → (b ≡ true) ↔ All Named (take m.count m.marks) → b ≡ named_to m m.count
+named_is m b fits h =
+    let size = length-take-le m.count m.marks fits in
+    let one : (i : ℕ) → i < m.count → get_or (take m.count m.marks) i zero_mark ≡ mark_at m i = λ i lt. get_or-take m.count m.marks i zero_mark lt in
+    by-test b
+    (λ e. e ∙ sym (named_from m m.count (λ i lt. subst Named (one i lt) (h.0 e i zero_mark (omega arith)))))
+    (λ e. e ∙ by-test (named_to m m.count)
+    (λ yes. absurd (false≢true (sym e ∙ h.1 (All-from_get_or Named _ zero_mark (λ i lt. subst Named (sym (one i (omega arith))) (named-each m m.count i yes (omega arith)))))))
+    sym)

@@ -10,6 +10,7 @@ use lib.Seq.{length-take-le, take_all, take-add, take-suc, take-take, take-nil, 
 use lib.Dec.{eqb, leb}
 use borrow.Author.Tests.{leb-true, leb-false, le-leb, eq-eqb}
 use Rattle.basics.proofs.Bools.{choice, by-test, cond-true, cond-false, and_both, both_and}
+use Rattle.std.proofs.Common.{Option, None, Some}
 use Rattle.record.specs.declared.Record.{Record}
 use Rattle.record.specs.Layout.{record_in}
 use Rattle.record.specs.Packing.{lines_of}
@@ -18,18 +19,15 @@ use Rattle.rules.specs.Bounds.{SoundJudge, SoundTally}
 use Rattle.rules.specs.Verdict.{most_records}
 use Rattle.rules.proofs.Places.{clash, off_iff}
 use Rattle.judge.proofs.Runs.{rest_is}
-use Rattle.feeding.specs.declared.Fed.{Fed}
 use Rattle.feeding.specs.declared.Stream.{Stream}
 use Rattle.feeding.specs.declared.Stop.{Stop}
 use Rattle.feeding.specs.declared.Stop.TheVariants.{Going}
 use Rattle.feeding.specs.Input.{whole_in}
-use Rattle.feeding.specs.State.{goes, padded, torn_of, state_with, gone_on, feed_of, fed_of, stream_bounds}
+use Rattle.feeding.specs.State.{goes, padded, torn_of, state_with, gone_on, feed_of, stream_bounds}
 use Rattle.feeding.proofs.Bounds.{bounds_are, are_bounds}
 use Rattle.feeding.proofs.GoOn.{feed_ended, feed_more}
 use Rattle.marks.specs.declared.Mark.{Mark}
 use Rattle.marks.specs.declared.Marks.{Marks}
-use Rattle.marks.specs.declared.Pending.{Pending}
-use Rattle.marks.specs.declared.Pending.TheVariants.{Nothing, Since}
 use Rattle.marks.specs.declared.Phases.{Phases}
 use Rattle.marks.specs.declared.Search.{Search}
 use Rattle.marks.specs.Marks.{mark_at, is_start_of}
@@ -68,15 +66,15 @@ dull-same m s r span = go s.pending refl
     none false true c e = clash refl e
     none false false true e = clash refl e
 
-    go : (w : Pending) → s.pending ≡ w → matters m (is_waiting s.pending) r ≡ false → seen_of m s r span ≡ s
-    go Nothing pe e =
-        let off : is_start_of m r ≡ false = sym (ap (λ (x : Pending). matters m (is_waiting x) r) pe) ∙ e in
-        let same : waiting s Nothing ≡ s = ap (waiting s) (sym pe) in
+    go : (w : Option ℕ) → s.pending ≡ w → matters m (is_waiting s.pending) r ≡ false → seen_of m s r span ≡ s
+    go None pe e =
+        let off : is_start_of m r ≡ false = sym (ap (λ (x : Option ℕ). matters m (is_waiting x) r) pe) ∙ e in
+        let same : waiting s None ≡ s = ap (waiting s) (sym pe) in
         choice (λ (x : Search). x ≡ s) r.reset (λ _. same) (λ _.
-        choice (λ (x : Search). x ≡ s) r.start (λ _. ap (λ (b : Bool). waiting s (cond b (Since span) Nothing)) off ∙ same) (λ _.
-        choice (λ (x : Search). x ≡ s) r.ack (λ _. ap (λ (x : Pending). acked s x (r.tm1 && r.tm0)) pe ∙ same) (λ _. refl)))
-    go (Since x) pe e =
-        let h = none r.reset r.start r.ack (sym (ap (λ (y : Pending). matters m (is_waiting y) r) pe) ∙ e) in
+        choice (λ (x : Search). x ≡ s) r.start (λ _. ap (λ (b : Bool). waiting s (cond b (Some span) None)) off ∙ same) (λ _.
+        choice (λ (x : Search). x ≡ s) r.ack (λ _. ap (λ (x : Option ℕ). acked s x (r.tm1 && r.tm0)) pe ∙ same) (λ _. refl)))
+    go (Some x) pe e =
+        let h = none r.reset r.start r.ack (sym (ap (λ (y : Option ℕ). matters m (is_waiting y) r) pe) ∙ e) in
         cond-false _ _ h.0 ∙ cond-false _ _ h.1.0 ∙ cond-false _ _ h.1.1
 
 -- a record of the first n bytes is one of all
@@ -195,9 +193,6 @@ module _ (p : Phases) (fit : Fit p) (on : under_way p ≡ true) where
   fed_is x = cond-true _ _ on
 
   -- what the judge's call answers
-  pub feed_is : (f : Fed) (x : List ℕ) → f ≡ fed_of s x → f.stream ≡ feed_of s x
-  unfolding fed_of
-  feed_is f x e = ap (λ (y : Fed). y.stream) (e ∙ cond-true _ _ fit.0)
 
   -- k + 1 records, of which the last is seen
   seen_last : (x : List ℕ) (k : ℕ) → length (torn_of s ++ x) ≡ suc k * 16
@@ -261,10 +256,10 @@ module _ (p : Phases) (fit : Fit p) (on : under_way p ≡ true) where
         let c = length-take-le (15 - s.held) piece (omega arith) in
         omega arith
 
-    waits_is : (f : Fed) → f ≡ fed_of s (take (15 - s.held) piece) → f.stream ≡ state_with Going s.judge s.tally nearly
+    waits_is : (f : Stream) → f ≡ feed_of s (take (15 - s.held) piece) → f ≡ state_with Going s.judge s.tally nearly
     unfolding feed_of
     waits_is f e =
-        feed_is f (take (15 - s.held) piece) e ∙ cond-true _ _ going ∙ gone_rest s.judge s.tally nearly (let z = nearly_size in omega arith) sound.1.1
+        e ∙ cond-true _ _ going ∙ gone_rest s.judge s.tally nearly (let z = nearly_size in omega arith) sound.1.1
 
     -- all of it
     abbrev front : List ℕ
@@ -273,7 +268,7 @@ module _ (p : Phases) (fit : Fit p) (on : under_way p ≡ true) where
     front_is : take (15 - s.held) piece ++ (get_or piece (15 - s.held) 0 ∷ []) ≡ front
     front_is = let f = few in sym (take-suc piece (15 - s.held) 0 (omega arith)) ∙ ap (λ (k : ℕ). take k piece) (let z : suc (15 - s.held) ≡ 16 - s.held = omega arith in z)
 
-    whole_is : (f : Fed) → f ≡ fed_of s (take (15 - s.held) piece) → set f.stream.torn 15 (get_or piece (15 - s.held) 0) ≡ torn_of s ++ front
+    whole_is : (f : Stream) → f ≡ feed_of s (take (15 - s.held) piece) → set f.torn 15 (get_or piece (15 - s.held) 0) ≡ torn_of s ++ front
     unfolding padded
     whole_is f e =
         let x : ℕ = get_or piece (15 - s.held) 0 in
@@ -283,13 +278,15 @@ module _ (p : Phases) (fit : Fit p) (on : under_way p ≡ true) where
         ∙ append_assoc (torn_of s) (take (15 - s.held) piece) (x ∷ [])
         ∙ ap (λ (l : List ℕ). torn_of s ++ l) front_is
 
-    done_is : (f g : Fed) → f ≡ fed_of s (take (15 - s.held) piece) → g ≡ fed_of f.stream (take (15 - s.held + 1 - (15 - s.held)) (drop (15 - s.held) piece)) → g.stream ≡ feed_of s front
-    unfolding fed_of
+    pub waits_bounds : (f : Stream) → f ≡ feed_of s (take (15 - s.held) piece) → stream_bounds f ≡ true
+    waits_bounds f e =
+        ap stream_bounds (waits_is f e) ∙ are_bounds (state_with Going s.judge s.tally nearly) sound.0 sound.1.0 sound.1.1 (let h = few in let z = nearly_size in omega arith)
+
+    done_is : (f g : Stream) → f ≡ feed_of s (take (15 - s.held) piece) → g ≡ feed_of f (take (15 - s.held + 1 - (15 - s.held)) (drop (15 - s.held) piece)) → g ≡ feed_of s front
     done_is f g fe ge =
         let h = few in
-        let bounds : stream_bounds f.stream ≡ true = ap stream_bounds (waits_is f fe) ∙ are_bounds (state_with Going s.judge s.tally nearly) sound.0 sound.1.0 sound.1.1 (let z = nearly_size in omega arith) in
-        ap (λ (y : Fed). y.stream) (ge ∙ cond-true _ _ bounds)
-        ∙ ap (λ (y : Stream). feed_of y (take (15 - s.held + 1 - (15 - s.held)) (drop (15 - s.held) piece))) (feed_is f (take (15 - s.held) piece) fe)
+        ge
+        ∙ ap (λ (y : Stream). feed_of y (take (15 - s.held + 1 - (15 - s.held)) (drop (15 - s.held) piece))) fe
         ∙ ap (λ (k : ℕ). feed_of (feed_of s (take (15 - s.held) piece)) (take k (drop (15 - s.held) piece))) (let z : 15 - s.held + 1 - (15 - s.held) ≡ 1 = omega arith in z)
         ∙ feed_feed s (take (15 - s.held) piece) (take 1 (drop (15 - s.held) piece)) sound
         ∙ ap (feed_of s) (sym (take-add (15 - s.held) 1 piece) ∙ ap (λ (k : ℕ). take k piece) (let z : 15 - s.held + 1 ≡ 16 - s.held = omega arith in z))
@@ -302,9 +299,9 @@ module _ (p : Phases) (fit : Fit p) (on : under_way p ≡ true) where
         let c = length-take-le (16 - s.held) piece (omega arith) in
         omega arith
 
-    pub first_is : (f g : Fed) (r : Record) (x : Phases) → f ≡ fed_of s (take (15 - s.held) piece)
-        → g ≡ fed_of f.stream (take (15 - s.held + 1 - (15 - s.held)) (drop (15 - s.held) piece))
-        → r ≡ lines_of (set f.stream.torn 15 (get_or piece (15 - s.held) 0)) → x ≡ saw_of p g.stream r → x ≡ fed_phases p front
+    pub first_is : (f g : Stream) (r : Record) (x : Phases) → f ≡ feed_of s (take (15 - s.held) piece)
+        → g ≡ feed_of f (take (15 - s.held + 1 - (15 - s.held)) (drop (15 - s.held) piece))
+        → r ≡ lines_of (set f.torn 15 (get_or piece (15 - s.held) 0)) → x ≡ saw_of p g r → x ≡ fed_phases p front
     first_is f g r x fe ge re xe =
         let all : List ℕ = torn_of s ++ front in
         let lines : r ≡ record_in (sixteen all 0) = lines_at all 0 r (let z = front-size in let y : 0 < length all / 16 = omega arith in y)
@@ -319,12 +316,12 @@ module _ (p : Phases) (fit : Fit p) (on : under_way p ≡ true) where
     first_held = fed-whole p front sound on (let z = front-size in omega arith)
 
   -- a piece that does not complete the torn record
-  pub short_is : (piece : List ℕ) (f : Fed) (x : Phases) → length s.torn ≡ 16 → length piece < 16 - s.held → f ≡ fed_of s piece → x ≡ with_stream p f.stream → x ≡ fed_phases p piece
+  pub short_is : (piece : List ℕ) (f : Stream) (x : Phases) → length s.torn ≡ 16 → length piece < 16 - s.held → f ≡ feed_of s piece → x ≡ with_stream p f → x ≡ fed_phases p piece
   short_is piece f x array short fe xe =
       let h = few in
       let a = length-append (torn_of s) piece in
       let b = length-take-le s.held s.torn (omega arith) in
-      xe ∙ ap (with_stream p) (feed_is f piece fe) ∙ sym (seen_none piece (λ i lt. absurd (omega arith)))
+      xe ∙ ap (with_stream p) fe ∙ sym (seen_none piece (λ i lt. absurd (omega arith)))
 
 -- what is fed stays fit, and an empty piece changes nothing of it
 pub fit-kept : (p : Phases) (x : List ℕ) → Fit p → Fit (fed_phases p x)

@@ -1,23 +1,25 @@
 -- How a piece is gone through quickly: the judge takes many records at once, and the search sees only those that matter to it. Nothing here is
 -- promised to a caller: the promise is `fed_phases` and `Phasing` of the crate `marks`, and the proofs show that this way keeps it.
-use Rattle.std.specs.Prelude.{ℕ, suc, ◌*◌, ◌%◌, ◌≤◌, ◌<◌, Bool, true, false, cond, ◌||◌, List, ◌≡◌, ◌⊎◌, length}
+use Rattle.std.specs.Prelude.{ℕ, suc, ◌*◌, ◌%◌, ◌≤◌, ◌<◌, Bool, true, false, cond, ◌||◌, Option, None, Some, List, ◌≡◌, ◌⊎◌, length}
 use Rattle.record.specs.declared.Record.{Record}
 use Rattle.rules.specs.Recording.{recording_in}
 use Rattle.feeding.specs.State.{stream_bounds}
 use Rattle.marks.specs.declared.Mark.{Mark}
-use Rattle.marks.specs.declared.Pending.{Pending}
-use Rattle.marks.specs.declared.Pending.TheVariants.{Nothing, Since}
 use Rattle.marks.specs.declared.Phases.{Phases}
 use Rattle.marks.specs.Marks.{mark_at, is_start_of}
+
+-- a mark that is not refused: its slot and its number are 0 to 15
+abbrev pub Named : Mark → Type 0
+Named mark = (mark.slot ≤ 15) × (mark.number ≤ 15)
 
 -- what going on asks of a state, and keeps: the judge's state within its bounds, and no more marks than there is room for
 abbrev pub Fit : Phases → Type 0
 Fit p = (stream_bounds p.stream ≡ true) × (p.marks.count ≤ 32)
 
 -- an ACK is waited for
-abbrev pub is_waiting : Pending → Bool
-is_waiting Nothing = false
-is_waiting (Since span) = true
+abbrev pub is_waiting : Option ℕ → Bool
+is_waiting None = false
+is_waiting (Some span) = true
 
 -- a record that can change what the search holds
 unfoldable pub matters : Mark → Bool → Record → Bool

@@ -8,50 +8,44 @@
 mod bounds;
 mod look;
 
-ghost use Rattle.std.specs.Prelude.{◌≡◌, true, cond, List, [], ℕ, ◌-◌, ◌≤◌, ◌<◌, length, take, drop, set};
+ghost use Rattle.std.specs.Prelude.{◌≡◌, true, List, [], ℕ, ◌-◌, ◌≤◌, ◌<◌, length, take, drop, set};
+ghost use Rattle.basics.specs.Answers.{answered};
 ghost use Rattle.record.specs.Packing.{lines_of};
 ghost use Rattle.rules.specs.Exact.{joined};
+ghost use Rattle.feeding.specs.State.{stream_bounds, feed_of};
 ghost use Rattle.marks.specs.declared.Marks.{Marks};
-ghost use Rattle.marks.specs.declared.Why.TheVariants.{Complete};
 ghost use Rattle.marks.specs.Report.{diffs_of, Right};
-ghost use Rattle.marks.specs.State.{all_found, under_way, phases_bounds, rises_to, with_stream, saw_of, fresh_search, no_marks, begin_refusal, begun_of, fresh_phases, fed_phases, phased_of, lacking, report_of};
+ghost use Rattle.marks.specs.State.{all_found, under_way, phases_bounds, rises_to, saw_of, no_phases, begin_refusal, begun_of, fresh_phases, fed_phases, phased_of, lacking, report_of};
 ghost use Rattle.marks.specs.Pieces.{fed_all};
 ghost use Rattle.phases.specs.Parts.{Fit, Dull};
 
+use basics::Refusal;
 use feeding::Stream;
-use marks::{Marks, Pending, Phased, Phases, Report, Search, Why};
+use marks::{Marks, Phases, Report, Search, Why};
 use record::Record;
 use rules::Verdict;
 
 fn all_found(phases: Phases) -> bool
     ensures { result ≡ all_found phases }
 {
-    let marks = phases.marks;
-    let search = phases.search;
-    marks.count <= search.found
+    phases.marks.count <= phases.search.found
 }
 
 // Whether more of the input counts: nothing has ended the judging, and a mark is missing still.
 pub fn is_under_way(phases: Phases) -> bool
     ensures { result ≡ under_way phases }
 {
-    let state = phases.stream;
-    let stop = state.stop;
-    stream::is_going(stop) & !all_found(phases)
+    stream::is_going(phases.stream.stop) & !all_found(phases)
 }
 
 // ---- going on
 
-fn with_stream(phases: Phases, next: Stream) -> Phases
-    ensures { result ≡ with_stream phases next }
+// The judge's state after more bytes, which it takes since it is within its bounds.
+fn fed(stream: Stream, bytes: &[u8]) -> Stream
+    requires { stream_bounds stream ≡ true }
+    ensures { result ≡ feed_of stream bytes.now }
 {
-    let marks = phases.marks;
-    let search = phases.search;
-    Phases {
-        stream: next,
-        marks: marks,
-        search: search,
-    }
+    stream::feed(stream, bytes).unwrap()
 }
 
 // The search sees a record that has been judged, unless it broke a rule or was one too many.
@@ -59,20 +53,19 @@ fn saw(phases: Phases, next: Stream, lines: Record) -> Phases
     requires { phases.search.found < 32 }
     ensures { result ≡ saw_of phases next lines }
 {
-    let stop = next.stop;
-    if stream::is_going(stop) {
-        let marks = phases.marks;
-        let search = phases.search;
-        let mark = look::mark_at(marks, search.found);
-        let totals = next.tally;
-        let after = look::seen(mark, search, lines, totals.span);
+    if stream::is_going(next.stop) {
+        let mark = look::mark_at(phases.marks, phases.search.found);
+        let search = look::seen(mark, phases.search, lines, next.tally.span);
         return Phases {
             stream: next,
-            marks: marks,
-            search: after,
+            search,
+            ..phases
         };
     }
-    with_stream(phases, next)
+    Phases {
+        stream: next,
+        ..phases
+    }
 }
 
 // How many bytes a torn record lacks.
@@ -80,8 +73,7 @@ fn lacking_in(torn: [u8; 16], held: usize) -> usize
     requires { held < 16 }
     ensures { (result ≡ 16 - held) × (length torn ≡ 16) }
 {
-    let all: &[u8] = &torn;
-    all.len() - held
+    torn.len() - held
 }
 
 // A record that lacks its last byte, with it.
@@ -98,15 +90,11 @@ fn first_record(phases: Phases, piece: &[u8]) -> Phases
     requires { Fit phases × ((under_way phases ≡ true) × ((length phases.stream.torn ≡ 16) × (16 - phases.stream.held ≤ length piece.now))) }
     ensures { result ≡ fed_phases phases (take (16 - phases.stream.held) piece.now) }
 {
-    let state = phases.stream;
-    let last = 15 - state.held;
+    let last = 15 - phases.stream.held;
     let end = last + 1;
-    let nearly = stream::feed(state, &piece[..last]);
-    let waits = nearly.stream;
-    let torn = waits.torn;
-    let lines = completed(torn, piece[last]);
-    let done = stream::feed(waits, &piece[last..end]);
-    let next = done.stream;
+    let waits = fed(phases.stream, &piece[..last]);
+    let lines = completed(waits.torn, piece[last]);
+    let next = fed(waits, &piece[last..end]);
     saw(phases, next, lines)
 }
 
@@ -115,14 +103,15 @@ fn advance(phases: Phases, part: &[u8]) -> Phases
     requires { Fit phases × ((under_way phases ≡ true) × ((phases.stream.held ≡ 0) × Dull phases part.now)) }
     ensures { result ≡ fed_phases phases part.now }
 {
-    let state = phases.stream;
-    let done = stream::feed(state, part);
-    let next = done.stream;
+    let next = fed(phases.stream, part);
     if (part.len() % 16 == 0) & (16 <= part.len()) {
         let at = part.len() - 16;
         return saw(phases, next, record::lines_in(&part[at..]));
     }
-    with_stream(phases, next)
+    Phases {
+        stream: next,
+        ..phases
+    }
 }
 
 // Goes through the piece from a place on, part by part.
@@ -136,11 +125,9 @@ fn go_through(phases: Phases, piece: &[u8], from: usize) -> Phases
         if !is_under_way(state) {
             break;
         }
-        let marks = state.marks;
         let search = state.search;
-        let pending = search.pending;
-        let mark = look::mark_at(marks, search.found);
-        let waits = look::is_waiting(pending);
+        let mark = look::mark_at(state.marks, search.found);
+        let waits = search.pending.is_some();
         let size = look::reach(mark, waits, &piece[at..]);
         let end = at + size;
         state = advance(state, &piece[at..end]);
@@ -157,13 +144,13 @@ fn take_in(phases: Phases, piece: &[u8]) -> Phases
     if !is_under_way(phases) {
         return phases;
     }
-    let state = phases.stream;
-    let torn = state.torn;
-    let lacking = lacking_in(torn, state.held);
+    let lacking = lacking_in(phases.stream.torn, phases.stream.held);
     if piece.len() < lacking {
-        let done = stream::feed(state, piece);
-        let next = done.stream;
-        return with_stream(phases, next);
+        let next = fed(phases.stream, piece);
+        return Phases {
+            stream: next,
+            ..phases
+        };
     }
     let first = first_record(phases, piece);
     go_through(first, piece, lacking)
@@ -171,82 +158,33 @@ fn take_in(phases: Phases, piece: &[u8]) -> Phases
 
 // ---- the calls
 
-fn fresh_search() -> Search
-    ensures { result ≡ fresh_search }
-{
-    let zeros = [0u64; 32];
-    Search {
-        spans: zeros,
-        found: 0,
-        pending: Pending::Nothing,
-    }
-}
-
-fn refused(number: u8, nothing: Stream) -> Phased
-    ensures { result ≡ record { number = number; phases = record { stream = nothing; marks = no_marks; search = fresh_search } } }
-{
-    let zeros = [0u8; 32];
-    let none = [0u8; 32];
-    let marks = Marks {
-        slots: zeros,
-        numbers: none,
-        count: 0,
-    };
-    let phases = Phases {
-        stream: nothing,
-        marks: marks,
-        search: fresh_search(),
-    };
-    Phased {
-        number: number,
-        phases: phases,
-    }
-}
-
 // An input from the start, for a hold limit of 1 to 16 and 1 to 32 marks, each a slot and a number of 0 to 15: or refusals 9, 2, 3, in that order.
-pub fn fresh(limit: u8, marks: Marks) -> Phased
-    ensures { result ≡ begun_of limit marks }
+pub fn fresh(limit: u8, marks: Marks) -> Result<Phases, Refusal>
+    ensures { answered no_phases result ≡ begun_of limit marks }
 {
-    // A stream that is refused is all zeros.
-    let none = stream::fresh(0);
-    let nothing = none.stream;
     if !bounds::some_marks(marks) {
-        return refused(9, nothing);
+        return Err(Refusal::Marks);
     }
     if !bounds::all_named(marks) {
-        return refused(2, nothing);
+        return Err(Refusal::Place);
     }
-    let begun = stream::fresh(limit);
-    if begun.number != 0 {
-        return refused(begun.number, nothing);
-    }
-    let state = begun.stream;
-    let phases = Phases {
-        stream: state,
-        marks: marks,
-        search: fresh_search(),
-    };
-    Phased {
-        number: 0,
-        phases: phases,
-    }
+    let stream = stream::fresh(limit)?;
+    Ok(Phases {
+        stream,
+        marks,
+        search: Search::default(),
+    })
 }
 
 // Goes on with the input's next piece, of any length, or refuses a state out of bounds by 5 and hands it back.
-pub fn feed(phases: Phases, piece: &[u8]) -> Phased
-    ensures { result ≡ phased_of phases piece.now }
+#[tactic(auto, unfolding(marks::specs::State::phased_of))]
+pub fn feed(phases: Phases, piece: &[u8]) -> Result<Phases, Refusal>
+    ensures { answered phases result ≡ phased_of phases piece.now }
 {
-    if bounds::in_bounds(phases) {
-        let next = take_in(phases, piece);
-        return Phased {
-            number: 0,
-            phases: next,
-        };
+    if !bounds::in_bounds(phases) {
+        return Err(Refusal::Bounds);
     }
-    Phased {
-        number: 5,
-        phases: phases,
-    }
+    Ok(take_in(phases, piece))
 }
 
 // ---- the report
@@ -264,26 +202,14 @@ fn why_lacking(place: usize, verdict: Verdict) -> Why
     }
 }
 
-fn why_ended(complete: bool, place: usize, verdict: Verdict) -> Why
-    ensures { result ≡ cond complete Complete (lacking place verdict) }
-{
-    if complete {
-        return Why::Complete;
-    }
-    why_lacking(place, verdict)
-}
-
 // The difference of each of the first spans to the one before.
 fn differences(spans: [u64; 32], found: usize) -> [u64; 32]
     requires { (found ≤ 32) × (rises_to spans found ≡ true) }
     ensures { result ≡ diffs_of spans found }
 {
-    let mut diffs = [0u64; 32];
-    let mut i: usize = 1;
-    while i < found {
-        let before = i - 1;
-        diffs[i] = spans[i] - spans[before];
-        i += 1;
+    let mut diffs = [0; 32];
+    for i in 1..found {
+        diffs[i] = spans[i] - spans[i - 1];
     }
     diffs
 }
@@ -292,30 +218,30 @@ fn differences(spans: [u64; 32], found: usize) -> [u64; 32]
 pub fn finish(phases: Phases) -> Report
     ensures { (result ≡ report_of phases) × ((limit : ℕ) (m : Marks) (pieces : List (List ℕ)) → begin_refusal limit m ≡ 0 → phases ≡ fed_all (fresh_phases limit m) pieces → Right limit m (joined pieces) result) }
 {
-    if bounds::in_bounds(phases) {
-        let search = phases.search;
-        let spans = search.spans;
-        let state = phases.stream;
-        let ending = stream::finish(state);
-        let verdict = ending.verdict;
-        let totals = ending.tally;
-        let why = why_ended(all_found(phases), search.found, verdict);
-        let diffs = differences(spans, search.found);
+    if !bounds::in_bounds(phases) {
         return Report {
-            why: why,
-            found: search.found,
-            spans: spans,
-            diffs: diffs,
-            records: totals.records,
+            why: Why::OutOfBounds,
+            found: 0,
+            spans: [0; 32],
+            diffs: [0; 32],
+            records: 0,
         };
     }
-    let zeros = [0u64; 32];
-    let none = [0u64; 32];
+    let spans = phases.search.spans;
+    let found = phases.search.found;
+    let ending = stream::finish(phases.stream);
+    let complete = all_found(phases);
+    let why = if complete {
+        Why::Complete
+    } else {
+        why_lacking(found, ending.verdict)
+    };
+    let diffs = differences(spans, found);
     Report {
-        why: Why::OutOfBounds,
-        found: 0,
-        spans: zeros,
-        diffs: none,
-        records: 0,
+        why,
+        found,
+        spans,
+        diffs,
+        records: ending.tally.records,
     }
 }

@@ -12,18 +12,18 @@ pub mark_at-mark-requires : goal.mark_at-mark-requires
 mark_at-mark-requires c = found-few c.loop-at.state c.loop-at.invariant.fit (sym c.is_under_way.ensures ∙ c.if-not-is_under_way.false)
 
 pub overflow_add-end : goal.overflow_add-end
-overflow_add-end c = let z = call_fits c.args.phases c.args.piece.now c.args.from c.loop-at.state c.loop-at.at c.reach-size.result c.mark_at-mark.result c.is_waiting-waits.result c.loop-at.invariant (omega arith) (sym c.is_under_way.ensures ∙ c.if-not-is_under_way.false) c.mark_at-mark.ensures c.is_waiting-waits.ensures c.reach-size.ensures in search rules
+overflow_add-end c = let z = call_fits c.args.phases c.args.piece.now c.args.from c.loop-at.state c.loop-at.at c.reach-size.result c.mark_at-mark.result c.is_some-waits.result c.loop-at.invariant (omega arith) (sym c.is_under_way.ensures ∙ c.if-not-is_under_way.false) c.mark_at-mark.ensures c.is_some-waits.ensures c.reach-size.ensures in search rules
 
 pub advance-state-requires : goal.advance-state-requires
-advance-state-requires c = call_needs c.args.phases c.args.piece.now c.args.from c.loop-at.state c.loop-at.at c.reach-size.result c.mark_at-mark.result c.is_waiting-waits.result c.loop-at.invariant (omega arith) (sym c.is_under_way.ensures ∙ c.if-not-is_under_way.false) c.mark_at-mark.ensures c.is_waiting-waits.ensures c.reach-size.ensures
+advance-state-requires c = call_needs c.args.phases c.args.piece.now c.args.from c.loop-at.state c.loop-at.at c.reach-size.result c.mark_at-mark.result c.is_some-waits.result c.loop-at.invariant (omega arith) (sym c.is_under_way.ensures ∙ c.if-not-is_under_way.false) c.mark_at-mark.ensures c.is_some-waits.ensures c.reach-size.ensures
 
 pub loop-at-smaller : goal.loop-at-smaller
-loop-at-smaller c = let z = call_fits c.args.phases c.args.piece.now c.args.from c.loop-at.state c.loop-at.at c.reach-size.result c.mark_at-mark.result c.is_waiting-waits.result c.loop-at.invariant (omega arith) (sym c.is_under_way.ensures ∙ c.if-not-is_under_way.false) c.mark_at-mark.ensures c.is_waiting-waits.ensures c.reach-size.ensures in
-    let y = call_some c.args.phases c.args.piece.now c.args.from c.loop-at.state c.loop-at.at c.reach-size.result c.mark_at-mark.result c.is_waiting-waits.result c.loop-at.invariant (omega arith) (sym c.is_under_way.ensures ∙ c.if-not-is_under_way.false) c.mark_at-mark.ensures c.is_waiting-waits.ensures c.reach-size.ensures in
+loop-at-smaller c = let z = call_fits c.args.phases c.args.piece.now c.args.from c.loop-at.state c.loop-at.at c.reach-size.result c.mark_at-mark.result c.is_some-waits.result c.loop-at.invariant (omega arith) (sym c.is_under_way.ensures ∙ c.if-not-is_under_way.false) c.mark_at-mark.ensures c.is_some-waits.ensures c.reach-size.ensures in
+    let y = call_some c.args.phases c.args.piece.now c.args.from c.loop-at.state c.loop-at.at c.reach-size.result c.mark_at-mark.result c.is_some-waits.result c.loop-at.invariant (omega arith) (sym c.is_under_way.ensures ∙ c.if-not-is_under_way.false) c.mark_at-mark.ensures c.is_some-waits.ensures c.reach-size.ensures in
     omega arith
 
 pub loop-at-preserved : goal.loop-at-preserved
-loop-at-preserved c = call_next c.args.phases c.args.piece.now c.args.from c.loop-at.state c.loop-at.at c.reach-size.result c.mark_at-mark.result c.is_waiting-waits.result c.loop-at.invariant (omega arith) (sym c.is_under_way.ensures ∙ c.if-not-is_under_way.false) c.mark_at-mark.ensures c.is_waiting-waits.ensures c.reach-size.ensures c.advance-state.result c.advance-state.ensures
+loop-at-preserved c = call_next c.args.phases c.args.piece.now c.args.from c.loop-at.state c.loop-at.at c.reach-size.result c.mark_at-mark.result c.is_some-waits.result c.loop-at.invariant (omega arith) (sym c.is_under_way.ensures ∙ c.if-not-is_under_way.false) c.mark_at-mark.ensures c.is_some-waits.ensures c.reach-size.ensures c.advance-state.result c.advance-state.ensures
 
 pub returns-after-loop-at : goal.returns-after-loop-at
 returns-after-loop-at c = through_done c.args.phases c.args.piece.now c.args.from c.loop-at.state c.loop-at.at c.loop-at.invariant (omega arith)

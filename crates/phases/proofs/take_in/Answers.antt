@@ -1,5 +1,5 @@
 -- `phases::take_in` meets its contract. Assumes nothing.
-use mathlib.Core.Path.{sym, ◌∙◌}
+use mathlib.Core.Path.{refl, sym, ◌∙◌}
 use native.Mathlib.Omega.{arith}
 use Rattle.marks.proofs.Onward.{fed_over}
 use Rattle.phases.proofs.Calls.{bounded}
@@ -12,8 +12,11 @@ returns-then-not-is_under_way c = sym (fed_over c.args.phases c.args.piece.now (
 pub lacking_in-lacking-requires : goal.lacking_in-lacking-requires
 lacking_in-lacking-requires c = few c.args.phases (bounded c.args.phases c.requires).fit (sym c.is_under_way.ensures ∙ c.if-not-is_under_way.false)
 
+pub fed-next-requires : goal.fed-next-requires
+fed-next-requires c = (bounded c.args.phases c.requires).fit.0
+
 pub returns-then-piece-lacking : goal.returns-then-piece-lacking
-returns-then-piece-lacking c = let z = c.lacking_in-lacking.ensures.0 in short_is c.args.phases (bounded c.args.phases c.requires).fit (sym c.is_under_way.ensures ∙ c.if-not-is_under_way.false) c.args.piece.now c.feed-done.result c.with_stream.result c.lacking_in-lacking.ensures.1 (omega arith) c.feed-done.ensures c.with_stream.ensures
+returns-then-piece-lacking c = let z = c.lacking_in-lacking.ensures.0 in short_is c.args.phases (bounded c.args.phases c.requires).fit (sym c.is_under_way.ensures ∙ c.if-not-is_under_way.false) c.args.piece.now c.fed-next.result _ c.lacking_in-lacking.ensures.1 (omega arith) c.fed-next.ensures refl
 
 pub first_record-first-requires : goal.first_record-first-requires
 first_record-first-requires c = let z = c.lacking_in-lacking.ensures.0 in ((bounded c.args.phases c.requires).fit, ((sym c.is_under_way.ensures ∙ c.if-not-is_under_way.false), (c.lacking_in-lacking.ensures.1, omega arith)))
