@@ -50,7 +50,8 @@ pub fn worst_wait(slot: u8, limit: u8) -> Result<Worst, Refusal>
     if slot >= Bus::SLOTS {
         return Err(Refusal::Place);
     }
-    if !Bus::is_limit(limit) {
+    let lawful = Bus::is_limit(limit);
+    if !lawful {
         return Err(Refusal::Value);
     }
     Ok(worst_of(slot, limit))

@@ -7,4 +7,4 @@ use Rattle.quote.proofs.Quoted.{promised}
 use Rattle.quote.proofs.worst_wait.Goals as goal
 
 pub returns : goal.returns
-returns c = promised _ _ (Ok _) (quote_is _ _ _ (omega arith) (sym c.is_limit.ensures ∙ c.if-not-is_limit.false) c.worst_of.ensures)
+returns c = promised _ _ (Ok _) (quote_is _ _ _ (omega arith) (sym c.is_limit-lawful.ensures ∙ c.if-not-lawful.false) c.worst_of.ensures)
