@@ -9,7 +9,6 @@ use Rattle.basics.specs.Numbers.{lawful_limit}
 use Rattle.basics.proofs.Bools.{cond-true, cond-false}
 use Rattle.feeding.specs.State.{goes}
 use Rattle.usage.specs.declared.Ledger.{Ledger}
-use Rattle.usage.specs.declared.Posted.{Posted}
 use Rattle.usage.specs.declared.Closing.{Closing}
 use Rattle.usage.specs.Pieces.{fresh_ledger, begun_of, closing_of, reckoning_of}
 use Rattle.usage.proofs.Pieces.{reckoning}
@@ -57,24 +56,3 @@ module _ (limit : ℕ) (lawful : lawful_limit limit ≡ true) where
       let fed = heard-holds accounting (fresh_ledger limit) (accounting_pieces limit lawful) bytes i out.heard in
       let is : closing_of i.state ≡ reckoning_of limit bytes = ap closing_of fed.state ∙ closing_of_lem bytes in
       closing_most (closing_of i.state) (ap (λ (x : Closing). length x.entries) is ∙ ((reckoning limit lawful).right bytes).account.sixteen)
-
--- ---- the limit
-module _ (limit narrow : ℕ) (begun : Posted) (ne : narrow ≡ min limit 255) (be : begun ≡ begun_of narrow) where
-  pub begun_lawful : begun.number ≡ 0 → (lawful_limit limit ≡ true) × (begun.ledger ≡ fresh_ledger limit)
-  unfolding begun_of
-  begun_lawful z =
-      let h = begins-lawful (λ (r : Posted). r.number) (λ n. record { number = 0; ledger = fresh_ledger n }) _ begun limit narrow ne be (λ e. omega arith) z in
-      (h.0, ap (λ (r : Posted). r.ledger) h.1)
-
-  refused-limit : (begun.number ≡ 0 → ⊥) → (lawful_limit limit ≡ false) × (begun.number ≡ 3)
-  unfolding begun_of
-  refused-limit nz =
-      let h = begins-unlawful (λ (r : Posted). r.number) (λ n. record { number = 0; ledger = fresh_ledger n }) _ begun limit narrow ne be (λ n. refl) nz in
-      (h.0, ap (λ (r : Posted). r.number) h.1)
-
-  pub refused_says : (text after : List ℕ) (q : Place) → length text ≡ 1536 → (begun.number ≡ 0 → ⊥)
-      → q ≡ moved_by (length text) front (length (refused_line begun.number)) → after ≡ put_at text front (refused_line begun.number) → Prints limit after (Ok q.at)
-  refused_says text after q size nz qe ae =
-      let refusal = refused-limit nz in
-      let held = holds_put text after (refused_line begun.number) q (let h = refusal-most begun.number in omega arith) qe ae in
-      unlawful q.at (page_fits after _ q held) refusal.0 (λ bytes. page_says after _ q held ∙ ap refused_line refusal.1 ∙ sym (cond-false _ _ refusal.0))

@@ -13,7 +13,7 @@ use Rattle.feeding.specs.State.{goes, fresh_stream}
 use Rattle.feeding.proofs.GoOn.{going-within}
 use Rattle.feeding.proofs.Feeding.{input_state, fed-all}
 use Rattle.usage.specs.declared.Ledger.{Ledger}
-use Rattle.usage.specs.declared.Posted.{Posted}
+use Rattle.basics.specs.Answers.{Answer}
 use Rattle.usage.specs.Pieces.{fresh_ledger, posted_of, posted_all}
 use Rattle.usage.proofs.Pieces.{posted_all_lem, post_stream, reckoning}
 use Rattle.reading.specs.Reads.{bytes_most, Piecewise}
@@ -28,12 +28,12 @@ module _ (limit : ℕ) (lawful : lawful_limit limit ≡ true) where
   fresh = fresh_ledger limit
 
   pub fed-first : (bytes : List ℕ) → accounting.fed fresh bytes ≡ posted_all fresh (bytes ∷ [])
-  fed-first bytes = ap (λ (r : Posted). r.ledger) ((reckoning limit lawful).accepts [] bytes)
+  fed-first bytes = ap (λ (r : Answer Ledger). r.value) ((reckoning limit lawful).accepts [] bytes)
 
   fed_on : (bytes piece : List ℕ) → accounting.fed (accounting.fed fresh bytes) piece ≡ accounting.fed fresh (bytes ++ piece)
   fed_on bytes piece =
-      ap (λ (l : Ledger). (posted_of l piece).ledger) (fed-first bytes)
-      ∙ ap (λ (r : Posted). r.ledger) ((reckoning limit lawful).accepts (bytes ∷ []) piece)
+      ap (λ (l : Ledger). (posted_of l piece).value) (fed-first bytes)
+      ∙ ap (λ (r : Answer Ledger). r.value) ((reckoning limit lawful).accepts (bytes ∷ []) piece)
       ∙ same_bytes limit (bytes ∷ piece ∷ []) ((bytes ++ piece) ∷ []) (ap (λ (l : List ℕ). bytes ++ l) (append-nil piece) ∙ sym (append-nil (bytes ++ piece)))
       ∙ sym (fed-first (bytes ++ piece))
 

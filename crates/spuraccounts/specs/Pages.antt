@@ -11,7 +11,7 @@ use Rattle.reading.specs.Pages.{Prints as PrintsOf}
 
 -- what is read is fed to the judge that keeps an account, and no more of it counts once the judging has ended
 abbrev pub accounting : Feeder Ledger
-accounting = record { fed = λ l piece. (posted_of l piece).ledger; going = λ l. goes l.stream.stop }
+accounting = record { fed = λ l piece. (posted_of l piece).value; going = λ l. goes l.stream.stop }
 
 -- the program reads no more: all that its reads brought, in order, has been fed to a fresh judge with an account of nothing
 abbrev pub ReadOut : ℕ → Standing Ledger → Type 0

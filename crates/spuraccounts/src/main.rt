@@ -26,7 +26,7 @@ impl Machine for Accounting {
     ghost says = { λ l. closing_lines (closing_of l) };
 
     fn feed(ledger: Ledger, piece: &[u8]) -> Ledger {
-        accounts::feed(ledger, piece).ledger
+        accounts::feed(ledger, piece).unwrap_or(ledger)
     }
 
     fn wants_more(ledger: &Ledger) -> bool {
@@ -43,13 +43,13 @@ fn account_input(stdin: Stdin, limit: u64, buffer: &mut [u8], text: &mut [u8]) -
     requires { length text.old ≡ 1536 }
     ensures { Prints limit text.new result }
 {
-    let begun = accounts::fresh(reading::narrowed(limit));
-    if begun.number != 0 {
-        let line = printed::put_refused(text, Place::front(), begun.number);
-        return Ok(line.at);
+    match accounts::fresh(reading::narrowed(limit)) {
+        Ok(fresh) => {
+            let input = reading::read_all::<Accounting>(stdin, buffer, fresh);
+            reading::told::<Accounting>(input, text)
+        }
+        Err(refusal) => Ok(printed::put_refused(text, Place::front(), refusal.number()).at),
     }
-    let input = reading::read_all::<Accounting>(stdin, buffer, begun.ledger);
-    reading::told::<Accounting>(input, text)
 }
 
 // ---- the program

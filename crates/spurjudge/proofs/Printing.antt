@@ -8,7 +8,6 @@ use lib.ListN.{length}
 use Rattle.basics.specs.Numbers.{lawful_limit}
 use Rattle.basics.proofs.Bools.{cond-true, cond-false}
 use Rattle.feeding.specs.declared.Stream.{Stream}
-use Rattle.feeding.specs.declared.Fed.{Fed}
 use Rattle.feeding.specs.declared.Ending.{Ending}
 use Rattle.feeding.specs.Input.{ending_of}
 use Rattle.feeding.specs.State.{goes, fresh_stream, fresh_of, finish_of}

@@ -7,7 +7,6 @@ use native.Mathlib.Omega.{arith}
 use lib.ListN.{length}
 use Rattle.basics.specs.Numbers.{lawful_limit}
 use Rattle.basics.proofs.Bools.{cond-true, cond-false, push}
-use Rattle.feeding.specs.declared.Fed.{Fed}
 use Rattle.feeding.specs.State.{goes, fresh_stream, no_stream, fresh_of}
 use Rattle.feeding.proofs.Feeding.{lawful_limits}
 use Rattle.text.specs.declared.Place.{Place}
@@ -15,7 +14,6 @@ use Rattle.text.specs.Places.{front, moved_by, put_at, Holds}
 use Rattle.printed.specs.Lines.{refused_line}
 use Rattle.printed.proofs.LineLaws.{refusal-most}
 use Rattle.witness.specs.declared.Witness.{Witness}
-use Rattle.witness.specs.declared.Noted.{Noted}
 use Rattle.witness.specs.declared.Reason.{Reason}
 use Rattle.witness.specs.State.{no_record, fresh_witness, begun_of, reason_in}
 use Rattle.witness.specs.Input.{reason_of}
@@ -48,29 +46,3 @@ module _ (limit : ℕ) (lawful : lawful_limit limit ≡ true) where
         says = λ bytes. page_of_lem _ bytes (reason_of_lem bytes);
         rest = λ bytes rest ended. sym (page_of_lem _ (bytes ++ rest) (sym (behind-same bytes rest ended))) ∙ page_of_lem _ bytes refl;
       }
-
--- ---- the limit
-abbrev beginning : Fed → Noted
-beginning f = record { number = f.number; witness = record { stream = f.stream; bytes = no_record } }
-
-begun_is : (limit : ℕ) → begun_of limit ≡ cond (lawful_limit limit) (record { number = 0; witness = fresh_witness limit }) (beginning (record { number = 3; stream = no_stream }))
-unfolding begun_of fresh_of
-begun_is limit = push beginning (lawful_limit limit) (record { number = 0; stream = fresh_stream limit }) (record { number = 3; stream = no_stream })
-
-module _ (limit narrow : ℕ) (begun : Noted) (ne : narrow ≡ min limit 255) (be : begun ≡ begun_of narrow) where
-  pub begun_lawful : begun.number ≡ 0 → (lawful_limit limit ≡ true) × (begun.witness ≡ fresh_witness limit)
-  begun_lawful z =
-      let h = begins-lawful (λ (r : Noted). r.number) (λ n. record { number = 0; witness = fresh_witness n }) (beginning (record { number = 3; stream = no_stream })) begun limit narrow ne (be ∙ begun_is narrow) (λ e. omega arith) z in
-      (h.0, ap (λ (r : Noted). r.witness) h.1)
-
-  refused-limit : (begun.number ≡ 0 → ⊥) → (lawful_limit limit ≡ false) × (begun.number ≡ 3)
-  refused-limit nz =
-      let h = begins-unlawful (λ (r : Noted). r.number) (λ n. record { number = 0; witness = fresh_witness n }) (beginning (record { number = 3; stream = no_stream })) begun limit narrow ne (be ∙ begun_is narrow) (λ n. refl) nz in
-      (h.0, ap (λ (r : Noted). r.number) h.1)
-
-  pub refused_says : (text after : List ℕ) (q : Place) → length text ≡ 320 → (begun.number ≡ 0 → ⊥)
-      → q ≡ moved_by (length text) front (length (refused_line begun.number)) → after ≡ put_at text front (refused_line begun.number) → Prints limit after (Ok q.at)
-  refused_says text after q size nz qe ae =
-      let refusal = refused-limit nz in
-      let held = holds_put text after (refused_line begun.number) q (let h = refusal-most begun.number in omega arith) qe ae in
-      unlawful q.at (page_fits after _ q held) refusal.0 (λ bytes. page_says after _ q held ∙ ap refused_line refusal.1 ∙ sym (cond-false _ _ refusal.0))

@@ -11,7 +11,7 @@ use Rattle.feeding.specs.State.{goes, fresh_stream}
 use Rattle.feeding.proofs.GoOn.{going-within}
 use Rattle.feeding.proofs.Feeding.{lawful_limits}
 use Rattle.witness.specs.declared.Witness.{Witness}
-use Rattle.witness.specs.declared.Noted.{Noted}
+use Rattle.basics.specs.Answers.{Answer}
 use Rattle.witness.specs.State.{fresh_witness, noted_of}
 use Rattle.witness.proofs.Pieces.{witness_of, noted_more, witness_fresh}
 use Rattle.reading.specs.Reads.{bytes_most, Piecewise}
@@ -25,11 +25,11 @@ module _ (limit : ℕ) (lawful : lawful_limit limit ≡ true) where
   begins = witness_fresh limit (lawful_limits limit lawful).0 (lawful_limits limit lawful).1
 
   fed_on : (bytes piece : List ℕ) → explaining.fed (state_of bytes) piece ≡ state_of (bytes ++ piece)
-  fed_on bytes piece = ap (λ (n : Noted). n.witness) (noted_more limit (lawful_limits limit lawful).0 (lawful_limits limit lawful).1 bytes piece)
+  fed_on bytes piece = ap (λ (n : Answer Witness). n.value) (noted_more limit (lawful_limits limit lawful).0 (lawful_limits limit lawful).1 bytes piece)
 
   -- the state is that of all the bytes at once
   pub fed_is : (bytes : List ℕ) → explaining.fed (fresh_witness limit) bytes ≡ state_of bytes
-  fed_is bytes = ap (λ (w : Witness). (noted_of w bytes).witness) begins ∙ fed_on [] bytes
+  fed_is bytes = ap (λ (w : Witness). (noted_of w bytes).value) begins ∙ fed_on [] bytes
 
   fed-within : (bytes : List ℕ) → explaining.going (explaining.fed (fresh_witness limit) bytes) ≡ true → length bytes < bytes_most
   fed-within bytes e =
@@ -41,6 +41,6 @@ module _ (limit : ℕ) (lawful : lawful_limit limit ≡ true) where
       record {
         goes = refl;
         none = fed_is [] ∙ sym begins;
-        more = λ bytes piece. ap (λ (w : Witness). (noted_of w piece).witness) (fed_is bytes) ∙ fed_on bytes piece ∙ sym (fed_is (bytes ++ piece));
+        more = λ bytes piece. ap (λ (w : Witness). (noted_of w piece).value) (fed_is bytes) ∙ fed_on bytes piece ∙ sym (fed_is (bytes ++ piece));
         within = fed-within;
       }

@@ -11,7 +11,7 @@ use Rattle.reading.specs.Pages.{Prints as PrintsOf}
 
 -- what is read is fed to the judge that keeps the record that broke a rule, and no more of it counts once the judging has ended
 abbrev pub explaining : Feeder Witness
-explaining = record { fed = λ w piece. (noted_of w piece).witness; going = λ w. goes w.stream.stop }
+explaining = record { fed = λ w piece. (noted_of w piece).value; going = λ w. goes w.stream.stop }
 
 -- the program reads no more: all that its reads brought, in order, has been fed to a fresh judge
 abbrev pub ReadOut : ℕ → Standing Witness → Type 0

@@ -26,7 +26,7 @@ impl Machine for Explaining {
     ghost says = { λ w. reason_lines (reason_in w) };
 
     fn feed(witness: Witness, piece: &[u8]) -> Witness {
-        witness::feed(witness, piece).witness
+        witness::feed(witness, piece).unwrap_or(witness)
     }
 
     fn wants_more(witness: &Witness) -> bool {
@@ -43,13 +43,13 @@ fn explain_input(stdin: Stdin, limit: u64, buffer: &mut [u8], text: &mut [u8]) -
     requires { length text.old ≡ 320 }
     ensures { Prints limit text.new result }
 {
-    let begun = witness::fresh(reading::narrowed(limit));
-    if begun.number != 0 {
-        let line = printed::put_refused(text, Place::front(), begun.number);
-        return Ok(line.at);
+    match witness::fresh(reading::narrowed(limit)) {
+        Ok(fresh) => {
+            let input = reading::read_all::<Explaining>(stdin, buffer, fresh);
+            reading::told::<Explaining>(input, text)
+        }
+        Err(refusal) => Ok(printed::put_refused(text, Place::front(), refusal.number()).at),
     }
-    let input = reading::read_all::<Explaining>(stdin, buffer, begun.witness);
-    reading::told::<Explaining>(input, text)
 }
 
 // ---- the program

@@ -24,4 +24,9 @@ returns-in-Ok c = let a = c.args in
 
 pub returns-in-Err : goal.returns-in-Err
 unfolding fresh_of
-returns-in-Err c = let a = c.args in ?
+returns-in-Err c = let a = c.args in
+    let begun = begun_unlawful fresh_stream no_stream a.limit _ c.narrowed.ensures _ c.fresh.ensures _ c.in-Err.is in
+    let number = c.number.ensures ∙ begun.1 in
+    let put = rw c.front.ensures at c.put_refused.ensures in
+    let most = refusal-most c.number.result in
+    refused-says judging (fresh_stream a.limit) (lawful_limit a.limit) (page_of a.limit) _ _ _ _ begun.0 (λ bytes. ap refused_line number ∙ sym (cond-false _ _ begun.0)) (omega arith) put.0 put.1
