@@ -52,6 +52,7 @@ pub enum Why {
 }
 
 // The span at each of the first `found` marks, its difference to the one before (0 for the first), and the records read.
+// Stays: the spans and the differences as two arrays, since `Right`, `Phasing.whole` and `Phasing.sums` speak of the spans alone, as a list.
 #[derive(Clone, Copy)]
 pub struct Report {
     pub why: Why,

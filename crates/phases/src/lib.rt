@@ -68,14 +68,6 @@ fn saw(phases: Phases, next: Stream, lines: Record) -> Phases
     }
 }
 
-// How many bytes a torn record lacks.
-fn lacking_in(torn: [u8; 16], held: usize) -> usize
-    requires { held < 16 }
-    ensures { (result ≡ 16 - held) × (length torn ≡ 16) }
-{
-    torn.len() - held
-}
-
 // A record that lacks its last byte, with it.
 fn completed(torn: [u8; 16], last: u8) -> Record
     ensures { result ≡ lines_of (set torn 15 last) }
@@ -85,9 +77,11 @@ fn completed(torn: [u8; 16], last: u8) -> Record
     record::lines_in(&whole)
 }
 
+// Stays: `Fit` in the clauses of three functions, since a caller makes a `Phases` of any values, and `feed` refuses those out of bounds by 5.
+
 // The record of which the first bytes were held is completed by the piece: with one byte to come the state holds all others.
 fn first_record(phases: Phases, piece: &[u8]) -> Phases
-    requires { Fit phases × ((under_way phases ≡ true) × ((length phases.stream.torn ≡ 16) × (16 - phases.stream.held ≤ length piece.now))) }
+    requires { Fit phases × ((under_way phases ≡ true) × (16 - phases.stream.held ≤ length piece.now)) }
     ensures { result ≡ fed_phases phases (take (16 - phases.stream.held) piece.now) }
 {
     let last = 15 - phases.stream.held;
@@ -121,6 +115,7 @@ fn go_through(phases: Phases, piece: &[u8], from: usize) -> Phases
 {
     let mut state = phases;
     let mut at = from;
+    // Stays: a `while`, since a turn goes on by as many bytes as `reach` says.
     while at < piece.len() {
         if !is_under_way(state) {
             break;
@@ -144,7 +139,8 @@ fn take_in(phases: Phases, piece: &[u8]) -> Phases
     if !is_under_way(phases) {
         return phases;
     }
-    let lacking = lacking_in(phases.stream.torn, phases.stream.held);
+    // What a torn record lacks, all of a record where none is held.
+    let lacking = 16 - phases.stream.held;
     if piece.len() < lacking {
         let next = fed(phases.stream, piece);
         return Phases {
