@@ -8,4 +8,4 @@ use Rattle.figures.proofs.put_digits.Goals as goal
 
 pub returns : goal.returns
 returns c = let a = c.args in
-    page_made 64 _ c.new-page.ensures c.add_digits.ensures a.buffer.now a.place (omega (arith, digits-length (base_of a.base) (min a.width 64) a.n)) c.put_into.ensures
+    page_made _ _ c.new-page.ensures c.add_digits.ensures a.buffer.now a.place (omega (arith, digits-length (base_of a.base) (min a.width 64) a.n)) c.put_into.ensures

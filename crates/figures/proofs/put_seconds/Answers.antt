@@ -6,4 +6,4 @@ use Rattle.figures.proofs.put_seconds.Goals as goal
 
 pub returns : goal.returns
 returns c = let a = c.args in
-    page_made 64 _ c.new-page.ensures c.add_seconds.ensures a.buffer.now a.place (omega (arith, seconds_length a.cycles (c.ranges.cycles.fits))) c.put_into.ensures
+    page_made _ _ c.new-page.ensures c.add_seconds.ensures a.buffer.now a.place (omega (arith, seconds_length a.cycles (c.ranges.cycles.fits))) c.put_into.ensures

@@ -5,4 +5,4 @@ use Rattle.printed.proofs.LineLaws.{breach-most}
 use Rattle.printed.proofs.put_breach.Goals as goal
 
 pub returns : goal.returns
-returns c = page_made 96 _ c.new-breach.ensures c.add_breach.ensures c.args.buffer.now c.args.place (omega (arith, breach-most c.args.broken)) c.put_into.ensures
+returns c = page_made _ _ c.new-breach.ensures c.add_breach.ensures c.args.buffer.now c.args.place (omega (arith, breach-most c.args.broken)) c.put_into.ensures

@@ -6,4 +6,4 @@ use Rattle.printed.proofs.LineLaws.{lines-most}
 use Rattle.printed.proofs.put_ending.Goals as goal
 
 pub returns : goal.returns
-returns c = page_made 256 _ c.new-page.ensures c.add_ending.ensures c.args.buffer.now front (omega (arith, lines-most c.args.ending)) (rw c.front.ensures at c.put_into.ensures)
+returns c = page_made _ _ c.new-page.ensures c.add_ending.ensures c.args.buffer.now front (omega (arith, lines-most c.args.ending)) (rw c.front.ensures at c.put_into.ensures)

@@ -5,4 +5,4 @@ use Rattle.printed.proofs.LineLaws.{refusal-most}
 use Rattle.printed.proofs.put_refused.Goals as goal
 
 pub returns : goal.returns
-returns c = page_made 96 _ c.new-refusal.ensures c.add_refused.ensures c.args.buffer.now c.args.place (omega (arith, refusal-most c.args.number)) c.put_into.ensures
+returns c = page_made _ _ c.new-refusal.ensures c.add_refused.ensures c.args.buffer.now c.args.place (omega (arith, refusal-most c.args.number)) c.put_into.ensures
