@@ -25,7 +25,7 @@ use Rattle.why.specs.declared.Figures.{Figures}
 use Rattle.why.specs.Figures.{figures_of}
 use Rattle.witness.specs.declared.Witness.{Witness}
 use Rattle.witness.specs.declared.Reason.{Reason}
-use Rattle.witness.specs.State.{broken_figures, figures_by, no_record, caught_in, note_of, reason_in}
+use Rattle.witness.specs.State.{broken_figures, figures_by, caught_in, note_of, reason_in}
 
 -- ---- the record that sixteen bytes hold
 lines_are : (bytes : List ℕ) → length bytes ≡ 16 → lines_of bytes ≡ record_in bytes
