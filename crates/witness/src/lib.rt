@@ -92,7 +92,7 @@ fn figures_by(verdict: Verdict, judge: Judge, bytes: [u8; 16]) -> Figures
 {
     match verdict {
         Verdict::Breach(broken) => broken_figures(broken, judge, bytes),
-        _ => Figures { found: 0, bound: 0 },
+        _ => Figures::default(),
     }
 }
 
