@@ -1,6 +1,6 @@
 -- What the functions on a state put together is what the definitions say. Assumes nothing.
 use Prim.Native.Nat.{ℕ, ◌≤◌, ◌<◌}
-use mathlib.Core.Bool.{Bool, true, false, not, cond, ◌&&◌}
+use mathlib.Core.Bool.{Bool, true, false, cond, ◌&&◌}
 use mathlib.Core.List.{List}
 use mathlib.Core.Path.{◌≡◌, refl, sym, ap, subst, ◌∙◌}
 use native.Mathlib.Omega.{arith}
@@ -17,47 +17,22 @@ use Rattle.basics.specs.Answers.{Answer, refusal_number, accepted, refused, answ
 use Rattle.basics.proofs.Refusals.{some_number}
 use Rattle.basics.proofs.Bools.{by-test, cond-true, cond-false, and_both}
 use Rattle.rules.specs.Exact.{joined}
-use Rattle.record.specs.declared.Record.{Record}
 use Rattle.feeding.specs.declared.Stream.{Stream}
 use Rattle.feeding.specs.declared.Ending.{Ending}
-use Rattle.feeding.specs.State.{goes, stream_bounds, no_stream, fresh_of, feed_of, fed_of, finish_of}
-use Rattle.marks.specs.declared.Mark.{Mark}
+use Rattle.feeding.specs.State.{stream_bounds, no_stream, fresh_of, feed_of, fed_of, finish_of}
 use Rattle.marks.specs.declared.Marks.{Marks}
 use Rattle.marks.specs.declared.Phases.{Phases}
 use Rattle.marks.specs.declared.Report.{Report}
 use Rattle.marks.specs.declared.Search.{Search}
 use Rattle.marks.specs.declared.Why.{Why}
 use Rattle.marks.specs.declared.Why.TheVariants.{Complete}
-use Rattle.marks.specs.Marks.{mark_at}
 use Rattle.marks.specs.Pieces.{fed_all}
 use Rattle.marks.specs.Report.{diffs_of, Right}
-use Rattle.marks.specs.State.{some_marks, named_to, lawful_marks, begin_refusal, seen_of, all_found, under_way, rises_to, phases_bounds, with_stream, saw_of, fresh_search, fresh_phases, no_phases, begun_of, lacking, report_with, no_report, report_of}
+use Rattle.marks.specs.State.{some_marks, named_to, lawful_marks, begin_refusal, all_found, rises_to, phases_bounds, fresh_search, fresh_phases, no_phases, begun_of, lacking, report_with, no_report, report_of}
 use Rattle.marks.proofs.Phasing.{phasing}
 use Rattle.phases.specs.Parts.{Fit}
 
-pub under_way_is : (p : Phases) (g a : Bool) → g ≡ goes p.stream.stop → a ≡ all_found p → (g && not a) ≡ under_way p
-unfolding under_way
-under_way_is p g a ge ae = ap (λ (x : Bool). x && not a) ge ∙ ap (λ (x : Bool). goes p.stream.stop && not x) ae
-
-pub saw_going : (p : Phases) (s : Stream) (r : Record) (g : Bool) (k : Mark) (x : Search) → g ≡ goes s.stop → g ≡ true → k ≡ mark_at p.marks p.search.found → x ≡ seen_of k p.search r s.tally.span
-    → ◌≡◌ {A = Phases} (record { stream = s; marks = p.marks; search = x }) (saw_of p s r)
-unfolding saw_of
-saw_going p s r g k x ge on ke xe =
-    ap (λ (y : Search). record { stream = s; marks = p.marks; search = y }) (xe ∙ ap (λ (z : Mark). seen_of z p.search r s.tally.span) ke) ∙ sym (cond-true _ _ (sym ge ∙ on))
-
-pub saw_ended : (p : Phases) (s : Stream) (r : Record) (g : Bool) (x : Phases) → g ≡ goes s.stop → g ≡ false → x ≡ with_stream p s → x ≡ saw_of p s r
-unfolding saw_of
-saw_ended p s r g x ge off xe = xe ∙ sym (cond-false _ _ (sym ge ∙ off))
-
 -- ---- bounds
-pub lawful_is : (m : Marks) (some named : Bool) → some ≡ some_marks m → some ≡ true → named ≡ named_to m m.count → named ≡ lawful_marks m
-unfolding lawful_marks
-lawful_is m some named se on ne = ne ∙ sym (ap (λ (b : Bool). b && named_to m m.count) (sym se ∙ on))
-
-pub lawful-not : (m : Marks) (some : Bool) → some ≡ some_marks m → some ≡ false → false ≡ lawful_marks m
-unfolding lawful_marks
-lawful-not m some se off = sym (ap (λ (b : Bool). b && named_to m m.count) (sym se ∙ off))
-
 pub some-few : (m : Marks) (some : Bool) → some ≡ some_marks m → some ≡ true → m.count ≤ 32
 some-few m some se on = leb-true m.count 32 (and_both (leb 1 m.count) (leb m.count 32) (sym se ∙ on)).1
 
@@ -65,24 +40,13 @@ pub lawful-few : (m : Marks) → lawful_marks m ≡ true → m.count ≤ 32
 unfolding lawful_marks
 lawful-few m e = some-few m (some_marks m) refl (and_both (some_marks m) (named_to m m.count) e).0
 
-module _ (p : Phases) (inner lawful : Bool) (ie : inner ≡ stream_bounds p.stream) (le : lawful ≡ lawful_marks p.marks) where
-  three : (inner && lawful && leb p.search.found p.marks.count) ≡ (stream_bounds p.stream && lawful_marks p.marks && leb p.search.found p.marks.count)
-  three = rw (ie, le)
-
+module _ (p : Phases) (inner lawful : Bool) (le : lawful ≡ lawful_marks p.marks) where
   pub few-found : (inner && lawful && leb p.search.found p.marks.count) ≡ true → p.search.found ≤ 32
   few-found e =
       let a = and_both (inner && lawful) (leb p.search.found p.marks.count) e in
       let b = lawful-few p.marks (sym le ∙ (and_both inner lawful a.0).1) in
       let c = leb-true p.search.found p.marks.count a.1 in
       omega arith
-
-  pub bounds_hold : (rises : Bool) → (inner && lawful && leb p.search.found p.marks.count) ≡ true → rises ≡ rises_to p.search.spans p.search.found → rises ≡ phases_bounds p
-  unfolding phases_bounds
-  bounds_hold rises e re = re ∙ sym (ap (λ (b : Bool). b && rises_to p.search.spans p.search.found) (sym three ∙ e))
-
-  pub bounds_fail : (inner && lawful && leb p.search.found p.marks.count) ≡ false → false ≡ phases_bounds p
-  unfolding phases_bounds
-  bounds_fail e = sym (ap (λ (b : Bool). b && rises_to p.search.spans p.search.found) (sym three ∙ e))
 
 -- what the bounds say
 pub record Bounded (p : Phases) : Type 0 where

@@ -1,6 +1,6 @@
 -- What the functions on marks and records put together is what the definitions say. Assumes nothing.
 use Prim.Native.Nat.{ℕ, zero, suc, ◌+◌, ◌-◌, ◌*◌, ◌/◌, ◌%◌, ◌≤◌, ◌<◌}
-use mathlib.Core.Bool.{Bool, true, false, false≢true, not, cond, ◌&&◌, ◌||◌}
+use mathlib.Core.Bool.{Bool, true, false, false≢true, ◌&&◌}
 use mathlib.Core.List.{List}
 use mathlib.Core.Path.{◌≡◌, refl, sym, ap, subst, ◌∙◌}
 use mathlib.Core.Logic.{inl, inr}
@@ -12,10 +12,10 @@ use borrow.Author.Tests.{leb-true, le-leb}
 use Rattle.std.specs.List.{All}
 use Rattle.std.specs.List.Sorted.{IsNonDecreasing}
 use Rattle.std.proofs.lemmas.List.Elements.{All-from_get_or}
-use Rattle.std.proofs.Common.{◌↔◌, MatchBool, Option, None, Some, Result, Ok, Err}
+use Rattle.std.proofs.Common.{◌↔◌, MatchBool, Result, Ok, Err}
 use Rattle.basics.specs.declared.refusal.Refusal.{Refusal}
 use Rattle.basics.specs.declared.refusal.Refusal.TheVariants.{Length, Place, Value, Code, Bounds, Room, Incoherent, TooMany, Marks as NoMarks}
-use Rattle.basics.proofs.Bools.{by-test, cond-true, cond-false, and_both, both_and}
+use Rattle.basics.proofs.Bools.{by-test, and_both, both_and}
 use Rattle.record.specs.declared.Record.{Record}
 use Rattle.record.specs.Packing.{lines_of, spare_of}
 use denote.Enum.Bare.{sameb}
@@ -23,17 +23,16 @@ use Rattle.codes.specs.contracts.Unit.{the_type}
 use Rattle.codes.specs.declared.Unit.{Unit}
 use Rattle.codes.specs.declared.Unit.TheVariants.{Byte, Halfword, Word, Two, Four, Eight, Sixteen}
 use Rattle.codes.specs.declared.Meaning.{Meaning}
-use Rattle.codes.specs.Start.{decode_of, decoded_answer}
+use Rattle.codes.specs.Start.{decoded_answer}
 use Rattle.rules.specs.Recording.{recording_in}
 use Rattle.rules.specs.Run.{Taken}
 use Rattle.rules.proofs.Places.{below}
 use Rattle.judge.proofs.Runs.{record_of}
 use Rattle.marks.specs.declared.Mark.{Mark}
 use Rattle.marks.specs.declared.Marks.{Marks}
-use Rattle.marks.specs.declared.Search.{Search}
-use Rattle.marks.specs.Marks.{is_word, zero_mark, mark_at, writes_to, is_start_of}
+use Rattle.marks.specs.Marks.{is_word, zero_mark, mark_at, writes_to}
 use Rattle.marks.specs.Report.{diffs_of}
-use Rattle.marks.specs.State.{named_to, waiting, acked, seen_of, rises_to}
+use Rattle.marks.specs.State.{named_to, rises_to}
 use Rattle.phases.specs.Parts.{Named, matters, Reaches}
 
 -- ---- a mark's START
@@ -67,50 +66,7 @@ writes-none m d r de = none r ∙ sym (ap (λ (x : Result Meaning Refusal). writ
     none TooMany = refl
     none NoMarks = refl
 
-pub start_is : (m : Mark) (r : Record) (d : Result Meaning Refusal) (b : Bool) → (r.start && not r.ack && not r.reset) ≡ true → decoded_answer d ≡ decode_of r.tm1 r.tm0 r.ad → b ≡ writes_to m (decoded_answer d) → b ≡ is_start_of m r
-unfolding is_start_of
-start_is m r d b e de be = be ∙ ap (writes_to m) de ∙ sym (ap (λ (x : Bool). x && writes_to m (decode_of r.tm1 r.tm0 r.ad)) e)
-
-pub start_none : (m : Mark) (r : Record) → (r.start && not r.ack && not r.reset) ≡ false → false ≡ is_start_of m r
-unfolding is_start_of
-start_none m r e = sym (ap (λ (x : Bool). x && writes_to m (decode_of r.tm1 r.tm0 r.ad)) e)
-
--- ---- the search
-pub acked-found : (s : Search) (span : ℕ) (b : Bool) → s.pending ≡ Some span → b ≡ true → ◌≡◌ {A = Search} (record { spans = set s.spans s.found span; found = s.found + 1; pending = None }) (acked s s.pending b)
-acked-found s span b pe be = rw (pe, be)
-
-pub acked-failed : (s : Search) (span : ℕ) (b : Bool) (r : Search) → s.pending ≡ Some span → b ≡ false → r ≡ waiting s None → r ≡ acked s s.pending b
-acked-failed s span b r pe be re = re ∙ rw (pe, be)
-
-pub acked-none : (s : Search) (b : Bool) (r : Search) → s.pending ≡ None → r ≡ waiting s None → r ≡ acked s s.pending b
-acked-none s b r pe re = re ∙ rw pe
-
-module _ (m : Mark) (s : Search) (r : Record) (span : ℕ) where
-  pub seen-reset : (x : Search) → r.reset ≡ true → x ≡ waiting s None → x ≡ seen_of m s r span
-  unfolding seen_of
-  seen-reset x e xe = xe ∙ sym (cond-true _ _ e)
-
-  pub seen_start : (x : Search) (b : Bool) (w : Option ℕ) → r.reset ≡ false → r.start ≡ true → b ≡ is_start_of m r → w ≡ cond b (Some span) None → x ≡ waiting s w → x ≡ seen_of m s r span
-  unfolding seen_of
-  seen_start x b w nr st be we xe = xe ∙ ap (waiting s) (we ∙ ap (λ (y : Bool). cond y (Some span) None) be) ∙ sym (cond-false _ _ nr ∙ cond-true _ _ st)
-
-  pub seen-ack : (x : Search) → r.reset ≡ false → r.start ≡ false → r.ack ≡ true → x ≡ acked s s.pending (r.tm1 && r.tm0) → x ≡ seen_of m s r span
-  unfolding seen_of
-  seen-ack x nr ns a xe = xe ∙ sym (cond-false _ _ nr ∙ cond-false _ _ ns ∙ cond-true _ _ a)
-
-  pub seen_other : r.reset ≡ false → r.start ≡ false → r.ack ≡ false → s ≡ seen_of m s r span
-  unfolding seen_of
-  seen_other nr ns na = sym (cond-false _ _ nr ∙ cond-false _ _ ns ∙ cond-false _ _ na)
-
 -- ---- records that matter
-pub matters-waiting : (m : Mark) (w : Bool) (r : Record) → w ≡ true → (r.reset || r.start || r.ack) ≡ matters m w r
-unfolding matters
-matters-waiting m w r e = sym (cond-true _ _ e)
-
-pub matters-idle : (m : Mark) (w b : Bool) (r : Record) → w ≡ false → b ≡ is_start_of m r → b ≡ matters m w r
-unfolding matters
-matters-idle m w b r e be = be ∙ sym (cond-false _ _ e)
-
 -- the record at place i of a part, as it is lent to be read
 pub lines_at : (s : List ℕ) (i : ℕ) (r : Record) → i < length s / 16 → r ≡ lines_of (take (i * 16 + 16 - i * 16) (drop (i * 16) s)) → r ≡ (recording_in s).lines i
 lines_at s i r lt e = ap (λ (x : Taken). x.lines) (record_of s i r (spare_of (take (i * 16 + 16 - i * 16) (drop (i * 16) s))) lt e refl)

@@ -30,6 +30,7 @@ pub(crate) fn all_named(marks: Marks) -> bool
     each_named(&marks.marks[..marks.count])
 }
 
+#[tactic(auto, unfolding(marks::specs::State::lawful_marks))]
 fn lawful(marks: Marks) -> bool
     ensures { result ≡ lawful_marks marks }
 {
@@ -45,6 +46,7 @@ fn rises(spans: [u64; 32], found: usize) -> bool
 }
 
 // The bounds for refusal 5: those of the judge in pieces; marks that would not be refused; no more found than there are, their spans in order.
+#[tactic(auto, unfolding(marks::specs::State::phases_bounds))]
 pub(crate) fn in_bounds(phases: Phases) -> bool
     ensures { result ≡ phases_bounds phases }
 {

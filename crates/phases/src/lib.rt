@@ -32,6 +32,7 @@ fn all_found(phases: Phases) -> bool
 }
 
 // Whether more of the input counts: nothing has ended the judging, and a mark is missing still.
+#[tactic(auto, unfolding(marks::specs::State::under_way))]
 pub fn is_under_way(phases: Phases) -> bool
     ensures { result ≡ under_way phases }
 {
@@ -49,6 +50,7 @@ fn fed(stream: Stream, bytes: &[u8]) -> Stream
 }
 
 // The search sees a record that has been judged, unless it broke a rule or was one too many.
+#[tactic(auto, unfolding(marks::specs::State::saw_of))]
 fn saw(phases: Phases, next: Stream, lines: Record) -> Phases
     requires { phases.search.found < 32 }
     ensures { result ≡ saw_of phases next lines }

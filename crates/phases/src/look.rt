@@ -35,6 +35,7 @@ fn writes_to(mark: Mark, decoded: Result<Meaning, Refusal>) -> bool
     }
 }
 
+#[tactic(auto, unfolding(marks::specs::Marks::is_start_of))]
 fn is_start_of(mark: Mark, lines: Record) -> bool
     ensures { result ≡ is_start_of mark lines }
 {
@@ -74,6 +75,7 @@ fn after_ack(search: Search, success: bool) -> Search
 }
 
 // After a record, the span up to it being so many cycles.
+#[tactic(auto, unfolding(marks::specs::State::seen_of))]
 pub(crate) fn seen(mark: Mark, search: Search, lines: Record, span: u64) -> Search
     requires { search.found < 32 }
     ensures { result ≡ seen_of mark search lines span }
@@ -105,6 +107,7 @@ pub(crate) fn seen(mark: Mark, search: Search, lines: Record, span: u64) -> Sear
 // ---- records that matter
 
 // Whether the search has to see a record: where nothing is waited for, only a START of the mark.
+#[tactic(auto, unfolding(crate::specs::Parts::matters))]
 fn may_change(mark: Mark, waits: bool, lines: Record) -> bool
     ensures { result ≡ matters mark waits lines }
 {
