@@ -8,8 +8,7 @@ use native.Mathlib.Omega.{arith}
 use native.Mathlib.Numerals.{add-one}
 use lib.ListN.{length, take, set, length-append, length-set}
 use lib.Seq.{take-suc-set}
-use Rattle.text.specs.declared.Number.{Number}
-use Rattle.text.specs.declared.Number.TheVariants.{Is, NotANumber}
+use Rattle.std.specs.Prelude.{Option, Some, None, Result, Ok}
 use Rattle.text.specs.declared.Place.{Place}
 use Rattle.text.specs.Places.{front, moved_by, put_at}
 use Rattle.printed.proofs.AddingLaws.{adds_put, adds_page}
@@ -18,8 +17,7 @@ use Rattle.fleet.specs.declared.Summary.{Summary}
 use Rattle.fleet.specs.Figures.{summary_of}
 use Rattle.fleetlines.specs.Lines.{summary_line}
 use Rattle.fleetlines.proofs.LineLaws.{line-most}
-use Rattle.spurfleet.specs.declared.Said.{Said}
-use Rattle.spurfleet.specs.declared.Said.TheVariants.{Line}
+use Rattle.spurfleet.specs.declared.Untold.{Untold}
 use Rattle.spurfleet.specs.Words.{is_figure, with_figure, Say, Amiss, Given, Prints, line, amiss, many}
 
 -- ---- the words
@@ -44,7 +42,7 @@ module _ (count next : ℕ) (numbers : List ℕ) (good : Bool) (word : List ℕ)
   more-size : length (t.words ++ (word ∷ [])) ≡ next + 1
   more-size = let e = length-append t.words (word ∷ []) in let s = t.size in omega arith
 
-  with_number : (n : ℕ) → Is n ≡ figure_of word → Taking count (next + 1) (set numbers next n) good
+  with_number : (n : ℕ) → Some n ≡ figure_of word → Taking count (next + 1) (set numbers next n) good
   with_number n e =
       let room = t.room in
       record {
@@ -54,14 +52,14 @@ module _ (count next : ℕ) (numbers : List ℕ) (good : Bool) (word : List ℕ)
         room = rw length-set room;
         each = λ g.
             more
-            ∙ ap (λ (l : List Number). l ++ (figure_of word ∷ [])) (t.each g)
-            ∙ ap (λ (x : Number). map Is (take next numbers) ++ (x ∷ [])) (sym e)
-            ∙ sym (map-append Is (take next numbers) (n ∷ []))
-            ∙ ap (map Is) (sym (ap (λ (k : ℕ). take k (set numbers next n)) (add-one next) ∙ take-suc-set numbers next n (omega arith)));
-        wrong = λ g. subst (Memᴰ NotANumber) (sym more) (Memᴰ.append_left (figure_of word ∷ []) (t.wrong g));
+            ∙ ap (λ (l : List (Option ℕ)). l ++ (figure_of word ∷ [])) (t.each g)
+            ∙ ap (λ (x : Option ℕ). map Some (take next numbers) ++ (x ∷ [])) (sym e)
+            ∙ sym (map-append Some (take next numbers) (n ∷ []))
+            ∙ ap (map Some) (sym (ap (λ (k : ℕ). take k (set numbers next n)) (add-one next) ∙ take-suc-set numbers next n (omega arith)));
+        wrong = λ g. subst (Memᴰ None) (sym more) (Memᴰ.append_left (figure_of word ∷ []) (t.wrong g));
       }
 
-  without : NotANumber ≡ figure_of word → Taking count (next + 1) numbers false
+  without : None ≡ figure_of word → Taking count (next + 1) numbers false
   without e =
       record {
         words = t.words ++ (word ∷ []);
@@ -69,29 +67,29 @@ module _ (count next : ℕ) (numbers : List ℕ) (good : Bool) (word : List ℕ)
         upto = omega arith;
         room = t.room;
         each = λ g. absurd (false≢true g);
-        wrong = λ _. subst (Memᴰ NotANumber) (sym more) (Memᴰ.append_right (map figure_of t.words) (Memᴰ.head e));
+        wrong = λ _. subst (Memᴰ None) (sym more) (Memᴰ.append_right (map figure_of t.words) (Memᴰ.head e));
       }
 
-  pub taking_on : (figure : Number) (kept : Bool) (after : List ℕ) → figure ≡ figure_of word
+  pub taking_on : (figure : Option ℕ) (kept : Bool) (after : List ℕ) → figure ≡ figure_of word
       → (kept ≡ is_figure figure) × (after ≡ with_figure numbers next figure) → Taking count (next + 1) after (kept && good)
-  taking_on (Is n) kept after e k = rw (k.0, k.1) (with_number n e)
-  taking_on NotANumber kept after e k = rw (k.0, k.1) (without e)
+  taking_on (Some n) kept after e k = rw (k.0, k.1) (with_number n e)
+  taking_on None kept after e k = rw (k.0, k.1) (without e)
 
 pub taking_end : (count next : ℕ) (numbers : List ℕ) (good : Bool) → Taking count next numbers good → count ≤ next → Given count numbers good
 taking_end count next numbers good t h =
     let same : next ≡ count = (let u = t.upto in omega arith) in
-    record { words = t.words; size = t.size ∙ same; each = λ g. t.each g ∙ ap (λ (k : ℕ). map Is (take k numbers)) same; amiss = t.wrong }
+    record { words = t.words; size = t.size ∙ same; each = λ g. t.each g ∙ ap (λ (k : ℕ). map Some (take k numbers)) same; amiss = t.wrong }
 
 -- ---- the line
 pub told_line : (count : ℕ) (text after numbers : List ℕ) (good : Bool) (s : Summary) (p q : Place)
     → length text ≡ 192 → count ≤ 4096 → Given count numbers good → good ≡ true → s ≡ summary_of (take count numbers) → p ≡ front
-    → (q ≡ moved_by (length text) p (length (summary_line s))) × (after ≡ put_at text p (summary_line s)) → Prints count after (Line q.at)
+    → (q ≡ moved_by (length text) p (length (summary_line s))) × (after ≡ put_at text p (summary_line s)) → Prints count after (Ok q.at)
 told_line count text after numbers good s p q size few g is se pe e =
     let made = adds_page pe (adds_put e) (let m = line-most s in omega arith) in
     line q.at g.words (take count numbers) few g.size (g.each is) made.within (made.text ∙ ap summary_line se)
 
 -- what is printed stands in the text
-pub line-within : (count : ℕ) (text : List ℕ) (said : Said) (n : ℕ) → Prints count text said → said ≡ Line n → n ≤ length text
+pub line-within : (count : ℕ) (text : List ℕ) (said : Result ℕ Untold) (n : ℕ) → Prints count text said → said ≡ Ok n → n ≤ length text
 line-within count text _ n (line m _ _ _ _ _ within _) e = let same : m ≡ n = cc in omega arith
 line-within count text _ n (amiss _ _ _ _) e = let z : ◌≡◌ {A = ℕ} 0 1 = cc in absurd (omega arith)
 line-within count text _ n (many _) e = let z : ◌≡◌ {A = ℕ} 0 1 = cc in absurd (omega arith)

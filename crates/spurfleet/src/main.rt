@@ -2,34 +2,33 @@
 // figures by `fleet`, and the line by `fleetlines`.
 #![tactic(auto)]
 
-ghost use Rattle.std.specs.Prelude.{◌≡◌, ◌-◌, ◌≤◌, ◌<◌, length};
+ghost use Rattle.std.specs.Prelude.{◌≡◌, ◌≤◌, ◌<◌, length};
 ghost use Rattle.spurfleet.specs.Words.{is_figure, with_figure, Given, Prints};
 
 use std::env::Env;
-use text::{Number, Place};
+use text::Place;
 
 // As many words are taken, and no more.
 const MOST: usize = 4096;
 
-// What there is to say: a line of so many bytes, or why there is none.
-#[derive(Clone, Copy)]
-enum Said {
-    Line(usize),
+// Why there is no line.
+#[derive(Clone, Copy, PartialEq, Eq)]
+enum Untold {
     NoFigure,
     TooMany,
 }
 
 // Keeps the number that a word says, and answers whether it says one.
-fn keep(numbers: &mut [u64], at: usize, figure: Number) -> bool
+fn keep(numbers: &mut [u64], at: usize, figure: Option<u64>) -> bool
     requires { at < length numbers.old }
     ensures { (result ≡ is_figure figure) × (numbers.new ≡ with_figure numbers.old at figure) }
 {
     match figure {
-        Number::Is(n) => {
+        Some(n) => {
             numbers[at] = n;
             true
         }
-        Number::NotANumber => false,
+        None => false,
     }
 }
 
@@ -40,56 +39,54 @@ fn take_words(rt: &impl Env, count: usize, numbers: &mut [u64]) -> bool
 {
     let mut word = io::buffer();
     let mut good = true;
-    let mut next = 0;
-    while next < count {
+    for next in 0..count {
         let size = reading::word_given(rt, next + 1, &mut word);
         let figure = figures::figure_in(&word[..size]);
         good = keep(numbers, next, figure) & good;
-        next += 1;
     }
     good
 }
 
-// The line of the numbers that so many words say.
-fn told(rt: &impl Env, count: usize, line: &mut [u8]) -> Said
+// Puts the line of the numbers that so many words say, and answers how many bytes it has.
+fn told(rt: &impl Env, count: usize, line: &mut [u8]) -> Result<usize, Untold>
     requires { length line.old ≡ 192 }
     ensures { Prints count line.new result }
 {
     if count > MOST {
-        return Said::TooMany;
+        return Err(Untold::TooMany);
     }
-    let mut numbers = [0u64; MOST];
-    if take_words(rt, count, &mut numbers) {
-        let summary = fleet::summarize(&numbers[..count]);
-        let end = fleetlines::put_summary(line, Place::front(), summary);
-        return Said::Line(end.at);
+    let mut numbers = [0; MOST];
+    if !take_words(rt, count, &mut numbers) {
+        return Err(Untold::NoFigure);
     }
-    Said::NoFigure
-}
-
-fn complain(line: &[u8]) {
-    io::write_all(reading::STDERR, line);
-}
-
-fn print(page: &[u8]) {
-    if !io::write_all(reading::STDOUT, page) {
-        complain(b"spurfleet: standard output can't be written\n");
-    }
-}
-
-// How many words stand behind the program's name.
-fn behind(words: usize) -> usize
-    ensures { result ≡ words - 1 }
-{
-    if words == 0 { 0 } else { words - 1 }
+    let summary = fleet::summarize(&numbers[..count]);
+    let end = fleetlines::put_summary(line, Place::front(), summary);
+    Ok(end.at)
 }
 
 fn main(rt: HostRuntime) {
-    let mut line = [0u8; 192];
-    let said = told(&rt, behind(reading::words_given(&rt)), &mut line);
-    match said {
-        Said::Line(n) => print(&line[..n]),
-        Said::NoFigure => complain(b"spurfleet: each word is to be a number of 1 to 19 digits\n"),
-        Said::TooMany => complain(b"spurfleet: at most 4096 numbers are taken\n"),
+    let mut line = [0; 192];
+    // its own name is the first of the words
+    match told(&rt, reading::words_given(&rt).saturating_sub(1), &mut line) {
+        Ok(n) => {
+            reading::print(
+                &mut rt.stdout(),
+                &mut rt.stderr(),
+                &line[..n],
+                b"spurfleet: standard output can't be written\n",
+            );
+        }
+        Err(Untold::NoFigure) => {
+            reading::complain(
+                &mut rt.stderr(),
+                b"spurfleet: each word is to be a number of 1 to 19 digits\n",
+            );
+        }
+        Err(Untold::TooMany) => {
+            reading::complain(
+                &mut rt.stderr(),
+                b"spurfleet: at most 4096 numbers are taken\n",
+            );
+        }
     }
 }

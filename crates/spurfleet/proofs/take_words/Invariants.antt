@@ -1,5 +1,4 @@
 -- `spurfleet::take_words` meets its contract: after each turn the words so far are taken in. Assumes nothing.
-use Prim.Native.Nat.{◌-◌}
 use mathlib.Core.Path.{◌≡◌}
 use lib.ListN.{length}
 use Rattle.spurfleet.proofs.Wording.{Taking}
@@ -7,6 +6,3 @@ use Rattle.spurfleet.proofs.take_words.Given as goal
 
 abbrev pub invariant-loop-next : goal.invariant-loop-next
 invariant-loop-next g l = (length l.word ≡ 4096) × (length l.numbers ≡ length l.initial.numbers) × Taking l.count l.next l.numbers l.good
-
-abbrev pub decreases-loop-next : goal.decreases-loop-next
-decreases-loop-next g l = l.count - l.next
