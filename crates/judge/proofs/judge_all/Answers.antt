@@ -1,5 +1,4 @@
 -- `judge::judge_all` meets its contract. Assumes nothing.
-use Prim.Native.Nat.{◌<◌}
 use mathlib.Core.Path.{◌≡◌, refl, sym, ◌∙◌}
 use native.Mathlib.Omega.{arith}
 use Rattle.basics.specs.Answers.{refusal_number}
