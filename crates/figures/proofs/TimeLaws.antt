@@ -5,11 +5,11 @@ use mathlib.Core.Bool.{true}
 use mathlib.Core.List.{List, [], ◌∷◌, ◌++◌}
 use native.Mathlib.Omega.{arith}
 use native.Mathlib.Nat.{div-div-eq-div-mul}
-use borrow.Author.Tests.{eq-eqb, ne_eqb, lt-ltb, eqb-true}
+use borrow.Author.Tests.{ne_eqb, lt-ltb, eqb-true}
 use lib.Dec.{eqb, ltb}
 use lib.ListN.{length, take, drop, length-append, length-drop}
 use lib.Seq.{take_all}
-use Rattle.basics.proofs.Bools.{choice, cond-true, cond-false, and_both}
+use Rattle.basics.proofs.Bools.{choice, cond-false, and_both}
 use Rattle.io.specs.Digits.{hex_digit_ascii, last_digits}
 use Rattle.text.specs.declared.Place.{Place}
 use Rattle.text.specs.Decimal.{spelled, decimal_of}
@@ -94,24 +94,7 @@ nanoseconds_length cycles =
     (λ e. omega arith)
     (λ e. simp length-append (omega (arith, (decimal_length cycles).1)))
 
--- ---- nanoseconds
-
-pub nanoseconds_none : (cycles : ℕ) → cycles ≡ 0 → nanoseconds_of cycles ≡ word "0"
-unfolding nanoseconds_of
-nanoseconds_none cycles e = cond-true _ _ (eq-eqb cycles 0 e)
-
-pub nanoseconds_some : (cycles : ℕ) → (cycles ≡ 0 → ⊥) → nanoseconds_of cycles ≡ decimal_of cycles ++ word "00"
-unfolding nanoseconds_of
-nanoseconds_some cycles e = cond-false _ _ (ne_eqb cycles 0 e)
-
 -- ---- seconds
-
--- the seven digits put behind the point make the time whole
-pub seconds_is : {a : List ℕ} {p : Place} {b : List ℕ} {q : Place} (cycles : ℕ) → Page a p (decimal_of (cycles / 10 ^ 7) ++ word ".") → Put a p b q (last_digits 10 7 cycles) → Page b q (seconds_of cycles)
-unfolding seconds_of
-seconds_is cycles h e =
-    page_more (decimal_of (cycles / 10 ^ 7) ++ word ".") (last_digits 10 7 cycles) h e
-    (simp length-append (omega (arith, (decimal_length (cycles / 10 ^ 7)).1, digits-length 10 7 cycles)))
 
 -- the last digits behind the number that stands before them give it back
 last_back : (k n : ℕ) → with_digits (n / 10 ^ k) (last_digits 10 k n) ≡ n
@@ -142,6 +125,8 @@ seconds_back cycles l =
 -- so no two times look alike
 pub seconds_only : (m n : ℕ) → m < 10 ^ 20 → n < 10 ^ 20 → seconds_of m ≡ seconds_of n → m ≡ n
 seconds_only m n l h e = sym (seconds_back m l) ∙ ap (λ (t : List ℕ). value_of (without_point t)) e ∙ seconds_back n h
+
+-- ---- nanoseconds
 
 -- the digits of the nanoseconds spell a hundred times the cycles
 pub nanoseconds_back : (cycles : ℕ) → cycles < 10 ^ 20 → value_of (nanoseconds_of cycles) ≡ cycles * 100

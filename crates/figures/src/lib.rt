@@ -15,6 +15,7 @@ use text::{Page, Place};
 // ---- reading
 
 // The number that up to nineteen digits spell, which is below 10^19 and so has room in 64 bits.
+// Stays: beside `text::number_in`, whose walk caps the number and ends at a byte that is no digit: here neither is needed, and no number is lost.
 fn value_in(word: &[u8]) -> u64
     requires { (all_digits word.now ≡ true) × (length word.now ≤ 19) }
     ensures { result ≡ value_of word.now }
@@ -66,6 +67,7 @@ fn glyph_of(d: u64) -> u8
 }
 
 // Spells the last digits of n at the end of 64 bytes, the last one first.
+// Stays: beside text's `spell`, which ends with the number and never begins with a zero: here the width says how many, in any base.
 fn spell(glyphs: &mut [u8], base: u64, first: usize, n: u64)
     requires { (length glyphs.old ≡ 64) × (1 < base) × (base ≤ 16) × (first ≤ 64) }
     ensures { drop first glyphs.new ≡ last_digits base (64 - first) n }

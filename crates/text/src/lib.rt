@@ -11,6 +11,7 @@ ghost use Rattle.text.specs.Places.{front, fits, moved_by, put_at};
 pub use page::Page;
 
 // Where the next byte goes, and whether all that was put so far had room.
+// Stays: a flag beside a number, and no Option: `fits`, `moved_by`, `put_at` and `Holds` (specs/Places) name both, for every place a caller may give.
 #[derive(Clone, Copy)]
 pub struct Place {
     pub at: usize,
@@ -69,6 +70,7 @@ fn digit_of(d: u64) -> u8
 }
 
 // Spells n at the end of twenty bytes, the last digit first, and answers where it begins.
+// Stays: the loop ends with the number, and no index says when.
 fn spell(n: u64, digits: &mut [u8]) -> usize
     requires { length digits.old ≡ 20 }
     ensures { (result < 20) × (drop result digits.new ≡ decimal_of n) }
