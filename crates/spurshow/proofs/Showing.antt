@@ -21,7 +21,7 @@ use Rattle.rules.proofs.Laws.{records-append}
 use Rattle.rules.proofs.Reach.{length-records}
 use Rattle.walk.specs.declared.Walk.{Walk}
 use Rattle.walk.specs.declared.Walked.{Walked}
-use Rattle.walk.specs.Walks.{fresh_walk, walk_bounds, step_refusal, gap_before, onward, step_of}
+use Rattle.walk.specs.Walks.{fresh_walk, walk_bounds, step_refusal, gap_before, onward, stayed, step_of}
 use Rattle.walk.proofs.Walking.{in_bounds_lem, none-refused, step_on, onward_bounds}
 use Rattle.printed.specs.Adding.{Adds}
 use Rattle.printed.proofs.AddingLaws.{Made, adds_put, adds_then, adds_none, adds_page}
@@ -31,10 +31,10 @@ use Rattle.vcdlines.specs.Dump.{change_text, end_text}
 use Rattle.vcdlines.proofs.ChangeLaws.{change_most, head_most, time-most}
 use Rattle.spurshow.specs.declared.Asked.{Asked}
 use Rattle.spurshow.specs.declared.Ending.TheVariants.{Fine, NoRecord, TooMany, Torn}
-use Rattle.spurshow.specs.declared.Request.{Request}
-use Rattle.spurshow.specs.declared.Request.TheVariants.{Show}
-use Rattle.text.specs.declared.Number.{Number}
-use Rattle.text.specs.declared.Number.TheVariants.{Is}
+use Rattle.std.specs.Prelude.{Result, Ok}
+use Rattle.basics.specs.declared.refusal.Refusal.{Refusal}
+use Rattle.basics.specs.Answers.{answered}
+use Rattle.basics.proofs.Refusals.{one_result}
 use Rattle.spurshow.specs.Shown.{goes, row_of, head_of, dump_of, text_of, shown, walked_over, records_of, ending_of, last_of, range_of}
 
 pub on_of : (b : Bool) → not b ≡ false → b ≡ true
@@ -66,10 +66,7 @@ module _ (a : Asked) (w : Walk) where
     text_some le = cond-true _ _ (le-leb a.from w.place le)
 
     -- what the program puts, from what a step answers
-    module _ (d : Walked) (b : walk_bounds w ≡ true) (g : goes a w ≡ true) (e : d ≡ step_of w t.lines) (le : a.from ≤ w.place) where
-      stepped : d ≡ record { number = 0; walk = onward w t.lines; gap = gap_before w t.lines.stamp }
-      stepped = e ∙ step_on w t.lines (accepted b g)
-
+    module _ (d : Walked) (stepped : d ≡ record { walk = onward w t.lines; gap = gap_before w t.lines.stamp }) (le : a.from ≤ w.place) where
       pub text_row : a.dump ≡ false → text_of a w t ≡ row_line w.place d.walk.cycle d.gap t.lines t.spare
       text_row no-dump =
           text_some le ∙ cond-false _ _ no-dump
@@ -105,8 +102,9 @@ module _ (a : Asked) (w : Walk) where
         let f : eqb w.place a.from ≡ false = ne_eqb w.place a.from (λ (z : w.place ≡ a.from). omega arith) in
         shown-within 530 (omega arith) (rw f (change_short false))
 
-    pub walk_on : (d : Walked) → walk_bounds w ≡ true → goes a w ≡ true → d ≡ step_of w t.lines → d.walk ≡ onward w t.lines
-    walk_on d b g e = ap (λ (x : Walked). x.walk) (e ∙ step_on w t.lines (accepted b g))
+  -- so a step isn't refused
+  pub step_ok : (lines : Record) (r : Result Walked Refusal) → walk_bounds w ≡ true → goes a w ≡ true → answered (stayed w) r ≡ step_of w lines → r ≡ Ok (record { walk = onward w lines; gap = gap_before w lines.stamp })
+  step_ok lines r b g e = one_result (stayed w) r (Ok (record { walk = onward w lines; gap = gap_before w lines.stamp })) (e ∙ step_on w lines (accepted b g))
 
 -- sixteen bytes as the program reads them
 pub taken-whole : (part : List ℕ) (lines : Record) (spare : ℕ) → length part ≡ 16 → lines ≡ lines_of part → spare ≡ spare_of part → ◌≡◌ {A = Taken} (record { lines = lines; spare = spare }) (taken_in part)
@@ -319,8 +317,3 @@ pub none_made : (a : Asked) (w : Walk) (text : List ℕ) (p : Place) → p ≡ f
 unfolding last_of
 none_made a w text p f none =
     rw (cond-false (end_text w.cycle) [] none) (adds_page f adds_none (omega arith))
-
--- ---- the words
-pub range_is : (dump : Bool) (first last : Number) (from to : ℕ) → first ≡ Is from → last ≡ Is to → ◌≡◌ {A = Request} (Show (record { dump = dump; from = from; to = to })) (range_of dump first last)
-range_is dump first last from to e f =
-    sym (ap (λ (x : Number). range_of dump x last) e ∙ ap (range_of dump (Is from)) f)

@@ -1,6 +1,6 @@
 -- What is shown of a recording: "one line for each record from place FROM to place TO, both counted from 0 and included, as far as there are records".
 -- Here as the program makes it, from a walk on and piece by piece; of the recording itself it is said in specs/Pages.
-use Rattle.std.specs.Prelude.{ℕ, ◌+◌, ◌-◌, ◌*◌, ◌/◌, ◌%◌, min, Bool, true, false, cond, ◌&&◌, List, [], ◌∷◌, ◌++◌, eqb, ltb, leb, length}
+use Rattle.std.specs.Prelude.{ℕ, ◌+◌, ◌-◌, ◌*◌, ◌/◌, ◌%◌, min, Bool, true, false, cond, ◌&&◌, List, [], ◌∷◌, ◌++◌, eqb, ltb, leb, length, Option, Some, None}
 use Rattle.rules.specs.Run.{Taken, records_in}
 use Rattle.rules.specs.Verdict.{most_records}
 use Rattle.walk.specs.declared.Walk.{Walk}
@@ -9,10 +9,6 @@ use Rattle.rowlines.specs.Rows.{row_line}
 use Rattle.vcdlines.specs.Dump.{change_text, end_text}
 use Rattle.vcdlines.specs.Head.{head_text}
 use Rattle.spurshow.specs.declared.Asked.{Asked}
-use Rattle.text.specs.declared.Number.{Number}
-use Rattle.text.specs.declared.Number.TheVariants.{Is, NotANumber}
-use Rattle.spurshow.specs.declared.Request.{Request}
-use Rattle.spurshow.specs.declared.Request.TheVariants.{Show, Unclear}
 use Rattle.spurshow.specs.declared.Ending.{Ending}
 use Rattle.spurshow.specs.declared.Ending.TheVariants.{Fine, NoRecord, TooMany, Torn}
 
@@ -74,11 +70,11 @@ last_of a w = cond (a.dump && ltb a.from w.place) (end_text w.cycle) []
 
 -- ---- the words
 -- the places of the first and the last record: two numbers
-abbrev pub range_of : Bool → Number → Number → Request
-range_of dump (Is from) (Is to) = Show (record { dump = dump; from = from; to = to })
-range_of dump (Is from) NotANumber = Unclear
-range_of dump NotANumber to = Unclear
+abbrev pub range_of : Bool → Option ℕ → Option ℕ → Option Asked
+range_of dump (Some from) (Some to) = Some (record { dump = dump; from = from; to = to })
+range_of dump (Some from) None = None
+range_of dump None to = None
 
 -- and before them `rows` or `vcd`
-unfoldable pub request_of : Bool → Bool → Number → Number → Request
-request_of rows vcd from to = cond rows (range_of false from to) (cond vcd (range_of true from to) Unclear)
+unfoldable pub request_of : Bool → Bool → Option ℕ → Option ℕ → Option Asked
+request_of rows vcd from to = cond rows (range_of false from to) (cond vcd (range_of true from to) None)

@@ -6,15 +6,15 @@ ghost use Rattle.std.specs.Prelude.{◌≡◌, true, ◌*◌, ◌≤◌, ◌<◌
 ghost use Rattle.io.specs.Counts.{IsPrefixLen};
 ghost use Rattle.printed.specs.Adding.{Adds};
 ghost use Rattle.rules.specs.Run.{taken_in};
-ghost use Rattle.walk.specs.Walks.{walk_bounds, onward};
+ghost use Rattle.walk.specs.Walks.{walk_bounds, gap_before, onward};
 ghost use Rattle.spurshow.specs.Shown.{goes, head_of, text_of, shown, walked_over, records_of, piece_of, ending_of, last_of, range_of, request_of};
 
 use record::Record;
 use rules::Judge;
 use std::env::Env;
 use std::io::Stdin;
-use text::{Number, Place};
-use walk::Walk;
+use text::Place;
+use walk::{Walk, Walked};
 
 // Whether a dump is asked for, and the places of the first and the last record that are to be shown, counted from 0.
 #[derive(Clone, Copy)]
@@ -43,6 +43,14 @@ fn put_head(text: &mut [u8], place: Place, first: bool) -> Place
     place
 }
 
+// A walk that goes on is in its bounds and has room for a record: its step isn't refused.
+fn step_on(asked: Asked, walk: Walk, lines: Record) -> Walked
+    requires { (walk_bounds walk ≡ true) × (goes asked walk ≡ true) }
+    ensures { result ≡ record { walk = onward walk lines; gap = gap_before walk lines.stamp } }
+{
+    walk::step(walk, lines).unwrap()
+}
+
 // What is shown of a record: nothing before FROM.
 fn put_record(
     text: &mut [u8],
@@ -58,18 +66,17 @@ fn put_record(
     if (walk.place as u64) < asked.from {
         return place;
     }
-    let walked = walk::step(walk, lines);
+    let walked = step_on(asked, walk, lines);
     let next = walked.walk;
     if asked.dump {
         let first = walk.place as u64 == asked.from;
-        let last = walk.last;
         let head = put_head(text, place, first);
         return vcdlines::put_change(
             text,
             head,
             first,
             walk.cycle,
-            last,
+            walk.last,
             walked.gap as u64,
             next.cycle,
             lines,
@@ -81,6 +88,7 @@ fn put_record(
 }
 
 // A walk, and the place behind the text of what was walked.
+// Stays: a buffer with a place handed on (rowlines::put_row and vcdlines::put_change put into a lent buffer); a Page of 65,536 bytes would be moved by value.
 #[derive(Clone, Copy)]
 struct Part {
     walk: Walk,
@@ -94,13 +102,9 @@ fn show_record(text: &mut [u8], place: Place, asked: Asked, walk: Walk, part: &[
 {
     let lines = record::lines_in(part);
     let spare = record::spare_in(part);
-    let behind = put_record(text, place, asked, walk, lines, spare);
-    let walked = walk::step(walk, lines);
-    let next = walked.walk;
-    Part {
-        walk: next,
-        place: behind,
-    }
+    let place = put_record(text, place, asked, walk, lines, spare);
+    let walk = step_on(asked, walk, lines).walk;
+    Part { walk, place }
 }
 
 // The text of a piece's whole records, at the front of the lent buffer, from a walk on. The place says how many bytes they are.
@@ -112,8 +116,7 @@ fn show_piece(asked: Asked, walk: Walk, piece: &[u8], text: &mut [u8]) -> Part
     let n = piece.len() / 16;
     let mut state = walk;
     let mut place = Place::front();
-    let mut i = 0;
-    while i < n {
+    for i in 0..n {
         if !is_going(asked, state) {
             break;
         }
@@ -122,12 +125,8 @@ fn show_piece(asked: Asked, walk: Walk, piece: &[u8], text: &mut [u8]) -> Part
         let next = show_record(text, place, asked, state, &piece[at..end]);
         state = next.walk;
         place = next.place;
-        i += 1;
     }
-    Part {
-        walk: state,
-        place: place,
-    }
+    Part { walk: state, place }
 }
 
 // ---- the end
@@ -176,31 +175,17 @@ fn put_last(asked: Asked, walk: Walk, text: &mut [u8]) -> Place
 
 // ---- the words
 
-// What the words ask for.
-#[derive(Clone, Copy)]
-enum Request {
-    Show(Asked),
-    Unclear,
-}
-
-fn ranged(dump: bool, from: Number, to: Number) -> Request
+fn ranged(dump: bool, from: Option<u64>, to: Option<u64>) -> Option<Asked>
     ensures { result ≡ range_of dump from to }
 {
-    match from {
-        Number::Is(first) => match to {
-            Number::Is(last) => Request::Show(Asked {
-                dump: dump,
-                from: first,
-                to: last,
-            }),
-            Number::NotANumber => Request::Unclear,
-        },
-        Number::NotANumber => Request::Unclear,
+    match (from, to) {
+        (Some(from), Some(to)) => Some(Asked { dump, from, to }),
+        _ => None,
     }
 }
 
 // From whether the first word is `rows`, whether it is `vcd`, and the numbers behind it.
-fn requested(rows: bool, vcd: bool, from: Number, to: Number) -> Request
+fn requested(rows: bool, vcd: bool, from: Option<u64>, to: Option<u64>) -> Option<Asked>
     ensures { result ≡ request_of rows vcd from to }
 {
     if rows {
@@ -209,17 +194,18 @@ fn requested(rows: bool, vcd: bool, from: Number, to: Number) -> Request
     if vcd {
         return ranged(true, from, to);
     }
-    Request::Unclear
+    None
 }
 
 // Word i of the program as a number.
-fn number_given(rt: &impl Env, i: usize) -> Number {
+fn number_given(rt: &impl Env, i: usize) -> Option<u64> {
     let mut word = io::buffer();
     let size = reading::word_given(rt, i, &mut word);
     figures::figure_in(&word[..size])
 }
 
-fn request_given(rt: &impl Env) -> Request {
+// What the words ask for, where they are clear.
+fn request_given(rt: &impl Env) -> Option<Asked> {
     let mut word = io::buffer();
     let size = reading::word_given(rt, 1, &mut word);
     let rows = check::same(&word[..size], b"rows");
@@ -263,74 +249,67 @@ fn read_piece(buffer: &mut [u8], most: usize) -> usize
     io::read_full(reading::STDIN, &mut buffer[..most])
 }
 
-fn complain(line: &[u8]) {
-    io::write_all(reading::STDERR, line);
-}
-
-fn print(page: &[u8]) {
-    if !io::write_all(reading::STDOUT, page) {
-        complain(b"spurshow: standard output can't be written\n");
-    }
+fn print(rt: &HostRuntime, page: &[u8]) {
+    reading::print(
+        &mut rt.stdout(),
+        &mut rt.stderr(),
+        page,
+        b"spurshow: standard output can't be written\n",
+    );
 }
 
 // At the end of the input, whether the last read came to it: where it failed instead, the next fails too.
 fn checked(stdin: Stdin, end: Ending, short: bool, buffer: &mut [u8]) -> Ending {
-    if short {
-        let again = reading::read_once(stdin, buffer);
-        if again.failed {
-            return Ending::CantRead;
-        }
+    if short && reading::read_once(stdin, buffer).failed {
+        return Ending::CantRead;
     }
     end
 }
 
 // Shows the records of standard input piece by piece.
-fn show(stdin: Stdin, asked: Asked) -> Ending {
-    let mut piece = [0u8; PIECE];
+fn show(rt: &HostRuntime, asked: Asked) -> Ending {
+    let mut piece = [0; PIECE];
     let mut text = io::large_buffer();
     let mut walk = Walk::fresh();
-    let mut turns: u32 = TURNS;
-    while turns > 0 {
+    'pieces: for _ in 0..TURNS {
         let earlier = walk.place;
         let most = piece_size(asked, earlier);
         let size = read_piece(&mut piece, most);
         let part = show_piece(asked, walk, &piece[..size], &mut text);
-        let place = part.place;
-        let n = place.at;
-        print(&text[..n]);
+        print(rt, &text[..part.place.at]);
         walk = part.walk;
         let short = size < most;
         let over = asked.to < walk.place as u64;
         if short | over | (earlier == Judge::MOST_RECORDS) {
             let last = put_last(asked, walk, &mut text);
-            let m = last.at;
-            print(&text[..m]);
-            return checked(
-                stdin,
-                end_found(asked, earlier, size, walk.place),
-                short & !over,
-                &mut piece,
-            );
+            print(rt, &text[..last.at]);
+            let end = end_found(asked, earlier, size, walk.place);
+            return checked(rt.stdin(), end, short & !over, &mut piece);
         }
-        turns -= 1;
     }
     Ending::TooMany
 }
 
-fn complain_of(end: Ending) {
+// What there is to complain of, where anything is wrong.
+fn complain_of(rt: &HostRuntime, end: Ending) {
     match end {
         Ending::Fine => {}
-        Ending::NoRecord => complain(b"spurshow: no record is in the range\n"),
-        Ending::TooMany => complain(b"spurshow: more than 2^30 records\n"),
-        Ending::Torn => complain(b"spurshow: the recording ends within a record\n"),
-        Ending::CantRead => complain(b"spurshow: standard input can't be read\n"),
+        Ending::NoRecord => complain(rt, b"spurshow: no record is in the range\n"),
+        Ending::TooMany => complain(rt, b"spurshow: more than 2^30 records\n"),
+        Ending::Torn => complain(rt, b"spurshow: the recording ends within a record\n"),
+        Ending::CantRead => complain(rt, b"spurshow: standard input can't be read\n"),
     }
+}
+
+fn complain(rt: &HostRuntime, line: &[u8]) {
+    reading::complain(&mut rt.stderr(), line);
 }
 
 fn main(rt: HostRuntime) {
     match request_given(&rt) {
-        Request::Show(asked) => complain_of(show(rt.stdin(), asked)),
-        Request::Unclear => complain(
+        Some(asked) => complain_of(&rt, show(&rt, asked)),
+        None => complain(
+            &rt,
             b"spurshow: it takes rows or vcd, and the places of the first and the last record as numbers\n",
         ),
     }

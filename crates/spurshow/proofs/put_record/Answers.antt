@@ -8,10 +8,8 @@ returns-then-walk-asked c = let a = c.args in adds_as (text_none a.asked a.walk 
 
 pub returns-then-asked : goal.returns-then-asked
 returns-then-asked c = let a = c.args in
-    let pre = c.requires in
-    adds_as (text_dump a.asked a.walk (record { lines = a.lines; spare = a.spare }) _ pre.0 pre.1 c.step-walked.ensures c.if-walk-asked.false c.if-asked.true) (adds_then c.put_head-head.ensures (adds_put c.put_change.ensures))
+    adds_as (text_dump a.asked a.walk (record { lines = a.lines; spare = a.spare }) _ c.step_on-walked.ensures c.if-walk-asked.false c.if-asked.true) (adds_then c.put_head-head.ensures (adds_put c.put_change.ensures))
 
 pub returns : goal.returns
 returns c = let a = c.args in
-    let pre = c.requires in
-    adds_as (text_row a.asked a.walk (record { lines = a.lines; spare = a.spare }) _ pre.0 pre.1 c.step-walked.ensures c.if-walk-asked.false c.if-asked.false) (adds_put c.put_row.ensures)
+    adds_as (text_row a.asked a.walk (record { lines = a.lines; spare = a.spare }) _ c.step_on-walked.ensures c.if-walk-asked.false c.if-asked.false) (adds_put c.put_row.ensures)

@@ -1,6 +1,5 @@
 -- `spurshow::ranged` meets its contract, number by number. Assumes nothing.
-use Rattle.spurshow.proofs.Showing.{range_is}
 use Rattle.spurshow.proofs.ranged.Goals as goal
 
-pub returns-in-Is-to : goal.returns-in-Is-to
-returns-in-Is-to c = let a = c.args in range_is a.dump a.from a.to _ _ c.in-Is.is c.in-Is-to.is
+pub returns-in_default : goal.returns-in_default
+returns-in_default c = rw (c.in_default.is-0, c.in_default.is-1)

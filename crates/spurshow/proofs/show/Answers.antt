@@ -5,5 +5,5 @@ use Rattle.spurshow.proofs.Showing.{fresh_bounds}
 use borrow.Author.Rules.{rules}
 use Rattle.spurshow.proofs.show.Goals as goal
 
-pub loop-turns-init : goal.loop-turns-init
-loop-turns-init c = (search rules, (search rules, ap walk_bounds c.fresh-walk.ensures ∙ fresh_bounds))
+pub pieces-init : goal.pieces-init
+pieces-init c = (search rules, (search rules, ap walk_bounds c.fresh-walk.ensures ∙ fresh_bounds))

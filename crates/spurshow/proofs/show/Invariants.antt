@@ -5,8 +5,5 @@ use lib.ListN.{length}
 use Rattle.walk.specs.Walks.{walk_bounds}
 use Rattle.spurshow.proofs.show.Given as goal
 
-abbrev pub invariant-loop-turns : goal.invariant-loop-turns
-invariant-loop-turns l = (length l.piece ≡ 1024) × ((length l.text ≡ 65536) × (walk_bounds l.walk ≡ true))
-
-abbrev pub decreases-loop-turns : goal.decreases-loop-turns
-decreases-loop-turns l = l.turns
+abbrev pub invariant-pieces : goal.invariant-pieces
+invariant-pieces l = (length l.piece ≡ 1024) × ((length l.text ≡ 65536) × (walk_bounds l.walk ≡ true))

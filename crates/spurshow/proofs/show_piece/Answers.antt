@@ -21,9 +21,6 @@ pub show_record-next-requires : goal.show_record-next-requires
 show_record-next-requires c = let h = c.loop-i.invariant.all in
     (c.loop-i.invariant.bounds, (sym c.is_going.ensures ∙ c.if-not-is_going.false, part_size c.args.piece.now c.loop-i.i (omega arith)))
 
-pub overflow_add-i : goal.overflow_add-i
-overflow_add-i c = let h = c.loop-i.invariant.all in search rules
-
 pub loop-i-preserved : goal.loop-i-preserved
 loop-i-preserved c = let a = c.args in
     along_next a.asked a.walk a.piece.now a.text.now _ c.loop-i.i c.loop-i.state c.loop-i.text c.loop-i.place c.loop-i.invariant _ _ _ _ c.loop-i-test.true (sym c.is_going.ensures ∙ c.if-not-is_going.false) (part_is a.piece.now c.loop-i.i) c.show_record-next.ensures.0 c.show_record-next.ensures.1
