@@ -1,6 +1,6 @@
 // Calls 11 to 18: the cache tables for 64 blocks and one more, and the lengths under which they are lent.
 use crate::numbers;
-use cache::{Change, Reading, Refusal};
+use basics::Refusal;
 
 #[derive(Clone, Copy)]
 pub(crate) struct Sizes {
@@ -12,30 +12,21 @@ pub(crate) struct Sizes {
 // Call 11.
 pub(crate) fn set_sizes(call: &[u8; 64]) -> Sizes {
     Sizes {
-        memory: numbers::least(numbers::size(call[1]), 65),
-        states: numbers::least(numbers::half_at(call, 2) as usize, 1040),
-        copies: numbers::least(numbers::half_at(call, 4) as usize, 1040),
+        memory: numbers::size(call[1].min(65)),
+        states: numbers::half_at(call, 2).min(1040) as usize,
+        copies: numbers::half_at(call, 4).min(1040) as usize,
     }
 }
 
-fn set_word(table: &mut [u32], at: usize, value: u32) {
-    if at < table.len() {
-        table[at] = value;
+// An entry of a table, where it has one.
+fn put<T: Copy>(table: &mut [T], at: usize, value: T) {
+    if let Some(entry) = table.get_mut(at) {
+        *entry = value;
     }
 }
 
-fn word_of(table: &[u32], at: usize) -> u32 {
-    if at < table.len() { table[at] } else { 0 }
-}
-
-fn set_state(table: &mut [u8], at: usize, value: u8) {
-    if at < table.len() {
-        table[at] = value;
-    }
-}
-
-fn state_of(table: &[u8], at: usize) -> u8 {
-    if at < table.len() { table[at] } else { 0 }
+fn entry<T: Copy + Default>(table: &[T], at: usize) -> T {
+    table.get(at).copied().unwrap_or_default()
 }
 
 // The place of a slot's entries in a block, both taken modulo how many there are.
@@ -45,39 +36,32 @@ fn place(block: u8, slot: u8) -> usize {
 
 // Call 12.
 pub(crate) fn set_memory(call: &[u8; 64], memory: &mut [u32]) {
-    let word = numbers::word_at(call, 2);
-    set_word(memory, numbers::size(call[1] % 64), word);
+    put(
+        memory,
+        numbers::size(call[1] % 64),
+        numbers::word_at(call, 2),
+    );
 }
 
 // Call 13.
 pub(crate) fn set_copy(call: &[u8; 64], states: &mut [u8], copies: &mut [u32]) {
     let at = place(call[2], call[1]);
-    let copy = numbers::word_at(call, 4);
-    set_state(states, at, call[3]);
-    set_word(copies, at, copy);
+    put(states, at, call[3]);
+    put(copies, at, numbers::word_at(call, 4));
 }
 
-fn refusal_number(refusal: Refusal) -> u8 {
-    match refusal {
-        Refusal::Sizes => 1,
-        Refusal::Place => 2,
-        Refusal::Incoherent => 7,
-    }
-}
-
-fn change_number(change: Change) -> u8 {
-    match change {
-        Change::Done => 0,
-        Change::Refused(refusal) => refusal_number(refusal),
-    }
-}
-
-fn put_reading(out: &mut [u8; 64], reading: Reading) {
+fn put_reading(out: &mut [u8; 64], reading: Result<u32, Refusal>) {
     match reading {
-        Reading::Value(value) => numbers::put_word(out, 1, value),
-        Reading::Refused(refusal) => {
-            out[0] = refusal_number(refusal);
+        Ok(value) => numbers::put_word(out, 1, value),
+        Err(refusal) => {
+            out[0] = refusal.number();
         }
+    }
+}
+
+fn put_change(out: &mut [u8; 64], change: Result<(), Refusal>) {
+    if let Err(refusal) = change {
+        out[0] = refusal.number();
     }
 }
 
@@ -93,19 +77,15 @@ fn on_tables(
     let slot = call[1];
     let block = numbers::size(call[2]);
     match op {
-        14 => {
-            let reading = cache::read(states, copies, memory, block, slot);
-            put_reading(out, reading);
-        }
+        14 => put_reading(out, cache::read(states, copies, memory, block, slot)),
         15 => {
             let value = numbers::word_at(call, 3);
-            let change = cache::write(states, copies, memory, block, slot, value);
-            out[0] = change_number(change);
+            put_change(
+                out,
+                cache::write(states, copies, memory, block, slot, value),
+            );
         }
-        _ => {
-            let change = cache::evict(states, copies, memory, block, slot);
-            out[0] = change_number(change);
-        }
+        _ => put_change(out, cache::evict(states, copies, memory, block, slot)),
     }
 }
 
@@ -119,9 +99,9 @@ pub(crate) fn on_lent(
     copies: &mut [u32],
     memory: &mut [u32],
 ) {
-    let s = numbers::lent_bytes(states, sizes.states);
-    let c = numbers::lent_words(copies, sizes.copies);
-    let m = numbers::lent_words(memory, sizes.memory);
+    let s = sizes.states.min(states.len());
+    let c = sizes.copies.min(copies.len());
+    let m = sizes.memory.min(memory.len());
     on_tables(
         op,
         call,
@@ -135,23 +115,20 @@ pub(crate) fn on_lent(
 // Call 17.
 pub(crate) fn put_states(call: &[u8; 64], out: &mut [u8; 64], states: &[u8], memory: &[u32]) {
     let block = call[1];
-    let word = word_of(memory, numbers::size(block % 64));
-    numbers::put_word(out, 1, word);
-    let mut slot: u8 = 0;
-    while slot < 16 {
-        let state = state_of(states, place(block, slot));
-        out[numbers::size(slot) + 5] = state;
-        slot += 1;
+    numbers::put_word(out, 1, entry(memory, numbers::size(block % 64)));
+    for slot in 0..16 {
+        out[numbers::size(slot) + 5] = entry(states, place(block, slot));
     }
 }
 
 // Call 18.
 pub(crate) fn put_copies(call: &[u8; 64], out: &mut [u8; 64], copies: &[u32]) {
     let block = call[1];
-    let mut slot: u8 = 0;
-    while slot < 16 {
-        let copy = word_of(copies, place(block, slot));
-        numbers::put_word(out, numbers::size(slot) * 4, copy);
-        slot += 1;
+    for slot in 0..16 {
+        numbers::put_word(
+            out,
+            numbers::size(slot) * 4,
+            entry(copies, place(block, slot)),
+        );
     }
 }

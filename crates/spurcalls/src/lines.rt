@@ -1,16 +1,12 @@
 // Calls 1 to 7: the line record, START codes, status, parity and the contest. Nothing lasts from one to the next.
 use crate::numbers;
-use codes::{Code, Decoded, Encoded, Operation, Status, Unit};
-use contest::Winner;
-use record::{Packed, Record, Unpacked};
+use codes::{Code, Operation, Status, Unit};
+use record::Record;
 
 // The record at [4..33] of a call.
 fn record_in(call: &[u8; 64]) -> Record {
-    let stamp = numbers::word_at(call, 4);
-    let ad = numbers::word_at(call, 17);
-    let vad = numbers::long_at(call, 25);
     Record {
-        stamp: stamp,
+        stamp: numbers::word_at(call, 4),
         reset: numbers::flag(call[8]),
         rqst: numbers::flag(call[9]),
         arb: call[10],
@@ -20,12 +16,12 @@ fn record_in(call: &[u8; 64]) -> Record {
         tm0: numbers::flag(call[14]),
         sp: numbers::flag(call[15]),
         spv: numbers::flag(call[16]),
-        ad: ad,
+        ad: numbers::word_at(call, 17),
         vtm1: numbers::flag(call[21]),
         vtm0: numbers::flag(call[22]),
         vack: numbers::flag(call[23]),
         vsack: numbers::flag(call[24]),
-        vad: vad,
+        vad: numbers::long_at(call, 25),
     }
 }
 
@@ -49,47 +45,24 @@ fn put_record(out: &mut [u8; 64], lines: Record) {
     numbers::put_long(out, 25, lines.vad);
 }
 
-fn pack_number(packed: Packed) -> u8 {
-    match packed {
-        Packed::Written => 0,
-        Packed::TooWide => 2,
-        Packed::NoRoom => 6,
-    }
-}
-
-// The forty bytes of which the buffer is the first part.
-fn put_forty(out: &mut [u8; 64], bytes: &[u8; 40]) {
-    let mut i: usize = 0;
-    while i < 40 {
-        out[i + 1] = bytes[i];
-        i += 1;
-    }
-}
-
 // Call 1. All forty bytes held A5 before: what isn't written still does.
 pub(crate) fn pack(call: &[u8; 64], out: &mut [u8; 64]) {
-    let lines = record_in(call);
-    let at = numbers::size(call[1]);
     let mut bytes = [165u8; 40];
-    let n = numbers::lent_bytes(&bytes, numbers::size(call[2]));
-    let packed = record::pack(&mut bytes[..n], at, lines);
-    out[0] = pack_number(packed);
-    put_forty(out, &bytes);
+    let n = numbers::size(call[2].min(40));
+    let packed = record::pack(&mut bytes[..n], numbers::size(call[1]), record_in(call));
+    if let Err(refusal) = packed {
+        out[0] = refusal.number();
+    }
+    out[1..41].copy_from_slice(&bytes);
 }
 
 // Call 2.
 pub(crate) fn unpack(call: &[u8; 64], out: &mut [u8; 64]) {
-    let at = numbers::size(call[1]);
-    let bytes = numbers::bytes_from(call, 3);
-    let n = numbers::lent_bytes(&bytes, numbers::least(numbers::size(call[2]), 40));
-    let unpacked = record::unpack(&bytes[..n], at);
-    match unpacked {
-        Unpacked::Is(lines) => put_record(out, lines),
-        Unpacked::SpareSet => {
-            out[0] = 3;
-        }
-        Unpacked::TooFew => {
-            out[0] = 6;
+    let n = numbers::size(call[2].min(40));
+    match record::unpack(&call[3..3 + n], numbers::size(call[1])) {
+        Ok(lines) => put_record(out, lines),
+        Err(refusal) => {
+            out[0] = refusal.number();
         }
     }
 }
@@ -106,81 +79,54 @@ fn unit_of(number: u8) -> Unit {
     }
 }
 
-fn unit_number(unit: Unit) -> u8 {
-    match unit {
-        Unit::Byte => 0,
-        Unit::Halfword => 1,
-        Unit::Word => 2,
-        Unit::Two => 3,
-        Unit::Four => 4,
-        Unit::Eight => 5,
-        Unit::Sixteen => 6,
-    }
-}
-
-// Call 3.
+// Call 3. A unit's number is its place among the units.
 pub(crate) fn decode(call: &[u8; 64], out: &mut [u8; 64]) {
-    let ad = numbers::word_at(call, 3);
     let code = Code {
         tm1: numbers::flag(call[1]),
         tm0: numbers::flag(call[2]),
-        ad: ad,
+        ad: numbers::word_at(call, 3),
     };
-    let decoded = codes::decode(code);
-    match decoded {
-        Decoded::Means(meaning) => {
+    match codes::decode(code) {
+        Ok(meaning) => {
             let op = meaning.operation;
-            let unit = op.unit;
             numbers::put_flag(out, 1, op.write);
-            out[2] = unit_number(unit);
+            out[2] = op.unit as u8;
             numbers::put_word(out, 3, op.address);
             out[7] = meaning.lanes;
         }
-        Decoded::NoMeaning => {
-            out[0] = 4;
+        Err(refusal) => {
+            out[0] = refusal.number();
         }
     }
 }
 
 // Call 4.
 pub(crate) fn encode(call: &[u8; 64], out: &mut [u8; 64]) {
-    let address = numbers::word_at(call, 3);
-    let unit = unit_of(call[2]);
     let op = Operation {
         write: numbers::flag(call[1]),
-        unit: unit,
-        address: address,
+        unit: unit_of(call[2]),
+        address: numbers::word_at(call, 3),
     };
-    let encoded = codes::encode(op);
-    match encoded {
-        Encoded::By(code) => {
+    match codes::encode(op) {
+        Ok(code) => {
             numbers::put_flag(out, 1, code.tm1);
             numbers::put_flag(out, 2, code.tm0);
             numbers::put_word(out, 3, code.ad);
         }
-        Encoded::Unaligned => {
-            out[0] = 4;
+        Err(refusal) => {
+            out[0] = refusal.number();
         }
     }
 }
 
 // A status as the number of its lines TM1 TM0 (001, table 2.4), here and in call 9.
 pub(crate) fn status_number(status: Status) -> u8 {
-    match status {
-        Status::Success => 3,
-        Status::Error => 2,
-        Status::Timeout => 1,
-        Status::Again => 0,
-    }
+    let lines = codes::status_lines(status);
+    basics::one_if(lines.tm1) * 2 + basics::one_if(lines.tm0)
 }
 
 pub(crate) fn status_of(number: u8) -> Status {
-    match number % 4 {
-        3 => Status::Success,
-        2 => Status::Error,
-        1 => Status::Timeout,
-        _ => Status::Again,
-    }
+    codes::status_of(number / 2 % 2 == 1, number % 2 == 1)
 }
 
 // Call 5.
@@ -199,12 +145,8 @@ pub(crate) fn parity(call: &[u8; 64], out: &mut [u8; 64]) {
 pub(crate) fn contest(call: &[u8; 64], out: &mut [u8; 64]) {
     let set = numbers::half_at(call, 1);
     out[1] = contest::settle(set);
-    let winner = contest::contest(set);
-    match winner {
-        Winner::Slot(slot) => {
-            out[2] = 1;
-            out[3] = slot;
-        }
-        Winner::Nobody => {}
+    if let Some(slot) = contest::contest(set) {
+        out[2] = 1;
+        out[3] = slot;
     }
 }

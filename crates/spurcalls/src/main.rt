@@ -87,67 +87,41 @@ fn answer(
     memory: &mut [u32],
 ) -> Desk {
     let op = call[0];
-    let mut bus = desk.bus;
-    let mut bench = desk.bench;
-    let mut sizes = desk.sizes;
-    if (8 <= op) & (op <= 10) {
-        bus = on_bus(op, call, out, bus);
-    } else if (11 <= op) & (op <= 18) {
-        sizes = on_blocks(op, call, out, sizes, states, copies, memory);
-    } else if (19 <= op) & (op <= 25) {
-        bench = on_bench(op, call, out, bench);
-    } else {
-        on_lines(op, call, out);
+    let mut next = desk;
+    match op {
+        8..=10 => next.bus = on_bus(op, call, out, desk.bus),
+        11..=18 => next.sizes = on_blocks(op, call, out, desk.sizes, states, copies, memory),
+        19..=25 => next.bench = on_bench(op, call, out, desk.bench),
+        _ => on_lines(op, call, out),
     }
-    Desk {
-        bus: bus,
-        bench: bench,
-        sizes: sizes,
-    }
+    next
 }
 
 // A fresh bus and a fresh judge at limit 16, no totals, nothing used, and the tables lent for 64 blocks.
 fn first_desk() -> Desk {
-    let bus = cycles::first_bus();
-    let bench = recordings::first_bench();
-    let sizes = Sizes {
-        memory: 64,
-        states: 1024,
-        copies: 1024,
-    };
     Desk {
-        bus: bus,
-        bench: bench,
-        sizes: sizes,
+        bus: cycles::first_bus(),
+        bench: recordings::first_bench(),
+        sizes: Sizes {
+            memory: 64,
+            states: 1024,
+            copies: 1024,
+        },
     }
 }
 
-// Whether there is more to answer, and what lasts.
-#[derive(Clone, Copy)]
-struct Turn {
-    more: bool,
-    desk: Desk,
-}
-
-fn write_answer(out: &[u8; 64]) -> bool {
-    io::write_all(1, out)
-}
-
-// Reads one call and answers it. A torn last call is not answered.
-fn one_turn(desk: Desk, states: &mut [u8], copies: &mut [u32], memory: &mut [u32]) -> Turn {
+// Reads one call and answers it: what lasts, or nothing where no more is to be answered. A torn last call is not answered.
+fn one_turn(desk: Desk, states: &mut [u8], copies: &mut [u32], memory: &mut [u32]) -> Option<Desk> {
     let mut call = [0u8; 64];
     let mut out = [0u8; 64];
     if io::read_full(0, &mut call) < 64 {
-        return Turn {
-            more: false,
-            desk: desk,
-        };
+        return None;
     }
     let next = answer(&call, &mut out, desk, states, copies, memory);
-    let written = write_answer(&out);
-    Turn {
-        more: written,
-        desk: next,
+    if io::write_all(1, &out) {
+        Some(next)
+    } else {
+        None
     }
 }
 
@@ -160,14 +134,10 @@ fn main() {
     let memory: &mut [u32] = &mut memory_words;
     let mut desk = first_desk();
     // A proved loop has to end, and nothing says that the input does: the turns fall from a number that no run uses up.
-    let mut turns = u64::MAX;
-    while turns > 0 {
-        let now = one_turn(desk, states, copies, memory);
-        if !now.more {
+    for _ in 0..u64::MAX {
+        let Some(next) = one_turn(desk, states, copies, memory) else {
             break;
-        }
-        let next = now.desk;
+        };
         desk = next;
-        turns -= 1;
     }
 }

@@ -4,7 +4,7 @@ ghost use Rattle.rules.specs.Verdict.{outcome_of, judged_of};
 
 use crate::{account, numbers};
 use entries::Entry;
-use rules::{Fresh, Judge, Judged, Owner, Tally, Transfer, Verdict, Wave};
+use rules::{Judge, Judged, Tally, Transfer, Verdict, Wave};
 
 // What lasts from call to call.
 #[derive(Clone, Copy)]
@@ -16,54 +16,45 @@ pub(crate) struct Bench {
 
 // A judge of zeros, which the library would refuse.
 fn no_judge() -> Judge {
-    let wave = Wave {
-        rqst: false,
-        prior: false,
-        owner: Owner::Nobody,
-        since: 0,
-        arb: 0,
-        turn: 0,
-    };
     Judge {
         limit: 0,
         seen: false,
         stamp: 0,
         transfer: Transfer::Idle,
-        wave: wave,
+        wave: Wave {
+            rqst: false,
+            prior: false,
+            owner: None,
+            since: 0,
+            arb: 0,
+            turn: 0,
+        },
     }
 }
 
-// Before the first call: a fresh judge, limit 16, that the library makes, and a tally and an account of zeros.
-pub(crate) fn first_bench() -> Bench {
-    let tally = Tally::zero();
-    let account = account::zeros();
-    let made = Judge::fresh(16);
-    let judge = match made {
-        Fresh::Ready(ready) => ready,
-        Fresh::BadLimit => no_judge(),
-    };
+// A judge that has judged nothing, with a tally and an account of zeros.
+fn with_judge(judge: Judge) -> Bench {
     Bench {
-        judge: judge,
-        tally: tally,
-        account: account,
+        judge,
+        tally: Tally::zero(),
+        account: account::zeros(),
     }
+}
+
+// Before the first call: a fresh judge, limit 16, that the library makes.
+pub(crate) fn first_bench() -> Bench {
+    with_judge(match Judge::fresh(16) {
+        Ok(judge) => judge,
+        Err(_) => no_judge(),
+    })
 }
 
 // Call 19. A refused one leaves judge, tally and account.
 pub(crate) fn fresh(call: &[u8; 64], out: &mut [u8; 64], bench: Bench) -> Bench {
-    let made = Judge::fresh(call[1]);
-    match made {
-        Fresh::Ready(judge) => {
-            let tally = Tally::zero();
-            let account = account::zeros();
-            Bench {
-                judge: judge,
-                tally: tally,
-                account: account,
-            }
-        }
-        Fresh::BadLimit => {
-            out[0] = 3;
+    match Judge::fresh(call[1]) {
+        Ok(judge) => with_judge(judge),
+        Err(refusal) => {
+            out[0] = refusal.number();
             bench
         }
     }
@@ -112,37 +103,24 @@ fn judge_lent(bytes: &[u8], state: Judge, totals: Tally) -> Answered
 {
     let mut tally = totals;
     let judged = judge::judge_recording(bytes, state, &mut tally);
-    Answered {
-        judged: judged,
-        tally: tally,
-    }
+    Answered { judged, tally }
 }
 
 // The answer of a judging call.
 pub(crate) fn put_judged(out: &mut [u8; 64], judged: Judged, tally: Tally) {
-    let verdict = judged.verdict;
-    let judge = judged.judge;
-    let transfer = judge.transfer;
-    put_verdict(out, verdict);
-    put_totals(out, tally, rules::is_open(transfer));
+    put_verdict(out, judged.verdict);
+    put_totals(out, tally, rules::is_open(judged.judge.transfer));
 }
 
 // Call 20. It judges without the account, and leaves it as it is.
 pub(crate) fn judge(call: &[u8; 64], out: &mut [u8; 64], bench: Bench) -> Bench {
-    let bytes = numbers::bytes_from(call, 2);
-    let n = numbers::lent_bytes(&bytes, numbers::least(numbers::size(call[1]), 48));
-    let before = bench.judge;
-    let so_far = bench.tally;
-    let answered = judge_lent(&bytes[..n], before, so_far);
-    let judged = answered.judged;
-    let tally = answered.tally;
-    put_judged(out, judged, tally);
-    let judge = judged.judge;
-    let account = bench.account;
+    let n = numbers::size(call[1].min(48));
+    let answered = judge_lent(&call[2..2 + n], bench.judge, bench.tally);
+    put_judged(out, answered.judged, answered.tally);
     Bench {
-        judge: judge,
-        tally: tally,
-        account: account,
+        judge: answered.judged.judge,
+        tally: answered.tally,
+        ..bench
     }
 }
 
@@ -155,22 +133,16 @@ pub(crate) fn set_tally(call: &[u8; 64], bench: Bench) -> Bench {
         acks: numbers::word_at(call, 17),
         aborted: numbers::word_at(call, 21),
     };
-    let judge = bench.judge;
-    let account = bench.account;
-    Bench {
-        judge: judge,
-        tally: tally,
-        account: account,
-    }
+    Bench { tally, ..bench }
 }
 
 // A transfer set open has been busy for its age and one cycle.
 fn transfer_of(open: bool, words: u8, strobes: u8, age: u16) -> Transfer {
     if open {
         Transfer::Open {
-            words: words,
-            strobes: strobes,
-            age: age,
+            words,
+            strobes,
+            age,
             busy: age as u32 + 1,
         }
     } else {
@@ -181,30 +153,16 @@ fn transfer_of(open: bool, words: u8, strobes: u8, age: u16) -> Transfer {
 // Call 22. The rest of the judge's state is kept.
 pub(crate) fn set_judge(call: &[u8; 64], bench: Bench) -> Bench {
     let age = numbers::half_at(call, 3);
-    let transfer = transfer_of(numbers::flag(call[2]), call[5], call[6], age);
     let before = bench.judge;
-    let kept = before.wave;
-    let owner = kept.owner;
-    let wave = Wave {
-        rqst: kept.rqst,
-        prior: kept.prior,
-        owner: owner,
-        since: kept.since,
-        arb: call[8],
-        turn: call[7],
-    };
     let judge = Judge {
         limit: call[1],
-        seen: before.seen,
-        stamp: before.stamp,
-        transfer: transfer,
-        wave: wave,
+        transfer: transfer_of(numbers::flag(call[2]), call[5], call[6], age),
+        wave: Wave {
+            arb: call[8],
+            turn: call[7],
+            ..before.wave
+        },
+        ..before
     };
-    let tally = bench.tally;
-    let account = bench.account;
-    Bench {
-        judge: judge,
-        tally: tally,
-        account: account,
-    }
+    Bench { judge, ..bench }
 }

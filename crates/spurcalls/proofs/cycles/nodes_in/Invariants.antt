@@ -1,9 +1,0 @@
--- `spurcalls::cycles::nodes_in` is safe and ends: the place is at most 17. Assumes nothing.
-use Prim.Native.Nat.{◌≤◌, ◌-◌}
-use Rattle.spurcalls.proofs.cycles.nodes_in.Given as goal
-
-abbrev pub invariant-loop-i : goal.invariant-loop-i
-invariant-loop-i l = l.i ≤ 17
-
-abbrev pub decreases-loop-i : goal.decreases-loop-i
-decreases-loop-i l = 17 - l.i
