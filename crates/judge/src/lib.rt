@@ -48,6 +48,7 @@ fn broken_at(judge: Judge, tally: Tally, rule: Rule, d: u32) -> Progress
 }
 
 // Judges a record rule by rule.
+// Stays: a state and a tally go as two values, as the public `judge_all` takes them and `outcome_of` and `step_of` have them.
 fn judge_lines(judge: Judge, tally: Tally, lines: Record, spare: u16) -> Progress
     requires { SoundJudge judge × (SoundTally tally × (tally.records < 2 ^ 30)) }
     ensures { result ≡ step_of judge tally (record { lines = lines; spare = spare }) }

@@ -139,6 +139,7 @@ pub fn is_strobe(words: u8, start: bool, ack: bool, tm0: bool) -> bool
 }
 
 // The verdict of a call that is refused by this number.
+// Stays: public, with a promise for every number (`refused_by` of rules/specs/Verdict); a caller that has a `Refusal` gives its number.
 #[tactic(auto, unfolding(crate::specs::Verdict::refused_by))]
 pub fn refused_by(number: u8) -> Verdict
     ensures { result ≡ refused_by number }
