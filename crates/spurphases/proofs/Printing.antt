@@ -14,22 +14,23 @@ use Rattle.rules.proofs.Laws.{unless-zero}
 use Rattle.text.specs.declared.Place.{Place}
 use Rattle.text.specs.Places.{front, moved_by, put_at, Holds}
 use Rattle.marks.specs.declared.Marks.{Marks}
-use Rattle.marks.specs.declared.Phased.{Phased}
+use Rattle.std.specs.Prelude.{Result, Ok, Err}
+use Rattle.basics.specs.declared.refusal.Refusal.{Refusal}
+use Rattle.basics.specs.Answers.{Answer, accepted, refused, refusal_number, answered}
+use Rattle.basics.proofs.Refusals.{some_number}
+use Rattle.marks.specs.declared.Phases.{Phases}
 use Rattle.marks.specs.declared.Report.{Report}
-use Rattle.marks.specs.State.{some_marks, named_to, under_way, begin_refusal, fresh_phases, begun_of, report_of}
+use Rattle.marks.specs.State.{some_marks, named_to, under_way, begin_refusal, fresh_phases, no_phases, begun_of, report_of}
 use Rattle.marks.specs.Pieces.{report_in}
 use Rattle.marks.proofs.Phasing.{phasing}
 use Rattle.printed.specs.Lines.{refused_line}
 use Rattle.printed.proofs.LineLaws.{refusal-most}
 use Rattle.phaselines.specs.Lines.{report_lines, phases_page}
 use Rattle.phaselines.proofs.LineLaws.{report_most}
-use Rattle.reading.specs.declared.Said.TheVariants.{Page}
-use Rattle.reading.specs.Pages.{unlawful}
+use Rattle.reading.specs.Pages.{Telling}
 use Rattle.reading.proofs.Narrow.{narrow_same, narrow_lawful}
-use Rattle.reading.proofs.Printing.{holds_put, page_fits, page_says, Telling, told-says}
-use Rattle.spurphases.specs.declared.Input.{Input}
-use Rattle.spurphases.specs.Pages.{searching, standing, ReadOut, Prints}
-use Rattle.spurphases.proofs.Reading.{fed_is, searching_pieces}
+use Rattle.spurphases.specs.Pages.{searching}
+use Rattle.spurphases.proofs.Reading.{fed_is}
 
 -- ---- an input that was read
 module _ (limit : ℕ) (m : Marks) (lawful : begin_refusal limit m ≡ 0) where
@@ -47,46 +48,38 @@ module _ (limit : ℕ) (m : Marks) (lawful : begin_refusal limit m ≡ 0) where
       ∙ (phasing limit m lawful).rest (bytes ∷ []) rest (ap under_way (sym (fed_is limit m lawful bytes)) ∙ ended)
       ∙ ap (report_in limit m) (append-nil bytes)
 
-  searching_tells : Telling searching (fresh_phases limit m) (phases_page limit m) (λ p. report_lines (report_of p))
+  pub searching_tells : Telling searching (fresh_phases limit m) (phases_page limit m) (λ p. report_lines (report_of p))
   searching_tells =
       record {
         says = λ bytes. page_of_lem _ bytes (report_of_lem bytes);
         rest = λ bytes rest ended. sym (page_of_lem _ (bytes ++ rest) (sym (behind-same bytes rest ended))) ∙ page_of_lem _ bytes refl;
       }
 
-  pub report_says : (i : Input) (text after : List ℕ) (e : Report) (q : Place) → length text ≡ 4096 → i.failed ≡ false → ReadOut limit m i → e ≡ report_of i.phases
-      → q ≡ moved_by (length text) front (length (report_lines e)) → after ≡ put_at text front (report_lines e) → Prints limit m after (Page q.at)
-  report_says i text after e q size sound out ee qe ae =
-      let held = holds_put text after (report_lines e) q (let h = report_most e in omega arith) qe ae in
-      told-says searching (fresh_phases limit m) (searching_pieces limit m lawful) (phases_page limit m) _ searching_tells (eqb (begin_refusal limit m) 0) (eq-eqb (begin_refusal limit m) 0 lawful) (standing i) after q sound out
-      (subst (λ (x : Report). Holds after q (report_lines x)) ee held)
-
 -- ---- the limit and the marks
 begun_number : (limit : ℕ) (m : Marks) → (begun_of limit m).number ≡ begin_refusal limit m
 unfolding begun_of
-begun_number limit m = choice (λ (r : Phased). r.number ≡ begin_refusal limit m) (eqb (begin_refusal limit m) 0) (λ e. sym (eqb-true _ 0 e)) (λ _. refl)
+begun_number limit m = choice (λ (r : Answer Phases). r.number ≡ begin_refusal limit m) (eqb (begin_refusal limit m) 0) (λ e. sym (eqb-true _ 0 e)) (λ _. refl)
 
 limit-lawful : (limit : ℕ) (m : Marks) → begin_refusal limit m ≡ 0 → lawful_limit limit ≡ true
 unfolding begin_refusal
 limit-lawful limit m e = (unless-zero (lawful_limit limit) 3 0 refl (unless-zero (named_to m m.count) 2 _ refl (unless-zero (some_marks m) 9 _ refl e).1).1).0
 
-module _ (limit narrow : ℕ) (m : Marks) (begun : Phased) (ne : narrow ≡ min limit 255) (be : begun ≡ begun_of narrow m) where
-  refusal-same : begun.number ≡ begin_refusal limit m
+module _ (limit narrow : ℕ) (m : Marks) (begun : Result Phases Refusal) (ne : narrow ≡ min limit 255) (be : answered no_phases begun ≡ begun_of narrow m) where
+  refusal-same : (begun_of narrow m).number ≡ begin_refusal limit m
   unfolding begin_refusal
   refusal-same =
-      ap (λ (r : Phased). r.number) be
-      ∙ begun_number narrow m
+      begun_number narrow m
       ∙ ap (λ (b : Bool). unless (some_marks m) 9 (unless (named_to m m.count) 2 (unless b 3 0))) (narrow_lawful limit narrow ne)
 
-  pub begun_lawful : begun.number ≡ 0 → (begin_refusal limit m ≡ 0) × (begun.phases ≡ fresh_phases limit m)
-  begun_lawful z =
-      let none : begin_refusal narrow m ≡ 0 = sym (begun_number narrow m) ∙ ap (λ (r : Phased). r.number) (sym be) ∙ z in
+  pub begun_lawful : (p : Phases) → begun ≡ Ok p → (begin_refusal limit m ≡ 0) × (p ≡ fresh_phases limit m)
+  begun_lawful p e =
+      let ok : accepted p ≡ begun_of narrow m = sym (ap (answered no_phases) e) ∙ be in
+      let zero : 0 ≡ (begun_of narrow m).number = ap (λ (r : Answer Phases). r.number) ok in
+      let none : begin_refusal narrow m ≡ 0 = sym (begun_number narrow m) ∙ sym zero in
       let same : limit ≡ narrow = narrow_same limit narrow ne (limit-lawful narrow m none) in
-      (sym refusal-same ∙ z, ap (λ (r : Phased). r.phases) (be ∙ (phasing narrow m none).begins) ∙ ap (λ (k : ℕ). fresh_phases k m) (sym same))
+      (sym refusal-same ∙ sym zero, ap (λ (r : Answer Phases). r.value) (ok ∙ (phasing narrow m none).begins) ∙ ap (λ (k : ℕ). fresh_phases k m) (sym same))
 
-  pub refused_says : (text after : List ℕ) (q : Place) → length text ≡ 4096 → (begun.number ≡ 0 → ⊥)
-      → q ≡ moved_by (length text) front (length (refused_line begun.number)) → after ≡ put_at text front (refused_line begun.number) → Prints limit m after (Page q.at)
-  refused_says text after q size nz qe ae =
-      let refused : eqb (begin_refusal limit m) 0 ≡ false = ne_eqb _ 0 (λ e. nz (refusal-same ∙ e)) in
-      let held = holds_put text after (refused_line begun.number) q (let h = refusal-most begun.number in omega arith) qe ae in
-      unlawful q.at (page_fits after _ q held) refused (λ bytes. page_says after _ q held ∙ ap refused_line refusal-same ∙ sym (cond-false _ _ refused))
+  pub begun_refused : (r : Refusal) → begun ≡ Err r → (eqb (begin_refusal limit m) 0 ≡ false) × (refusal_number r ≡ begin_refusal limit m)
+  begun_refused r e =
+      let is : refusal_number r ≡ begin_refusal limit m = ap (λ (a : Answer Phases). a.number) (sym (ap (answered no_phases) e) ∙ be) ∙ refusal-same in
+      (ne_eqb _ 0 (λ z. let some = some_number r in omega arith), is)

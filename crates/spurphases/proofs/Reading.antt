@@ -19,7 +19,7 @@ use Rattle.feeding.specs.Input.{whole_in, judged_in}
 use Rattle.feeding.proofs.Feeding.{ended_in}
 use Rattle.marks.specs.declared.Marks.{Marks}
 use Rattle.marks.specs.declared.Phases.{Phases}
-use Rattle.marks.specs.declared.Phased.{Phased}
+use Rattle.basics.specs.Answers.{Answer}
 use Rattle.marks.specs.declared.Report.{Report}
 use Rattle.marks.specs.declared.Why.{Why}
 use Rattle.marks.specs.declared.Why.TheVariants.{Complete, AtBreach as Broke, Torn, TooMany, Absent, OutOfBounds}
@@ -27,8 +27,7 @@ use Rattle.marks.specs.Report.{Because}
 use Rattle.marks.specs.State.{some_marks, under_way, all_found, phases_bounds, begin_refusal, fresh_phases, fed_phases, phased_of, lacking, report_with, no_report, report_of}
 use Rattle.marks.specs.Pieces.{report_in}
 use Rattle.marks.proofs.Phasing.{fed-all, phasing}
-use Rattle.reading.specs.Reads.{bytes_most}
-use Rattle.reading.proofs.Reading.{Piecewise}
+use Rattle.reading.specs.Reads.{bytes_most, Piecewise}
 use Rattle.spurphases.specs.Pages.{searching}
 
 -- ---- a report that ends with the input has read all of its whole records
@@ -86,12 +85,12 @@ module _ (limit : ℕ) (m : Marks) (lawful : begin_refusal limit m ≡ 0) where
   fresh = fresh_phases limit m
 
   pub fed_is : (bytes : List ℕ) → searching.fed fresh bytes ≡ fed_phases fresh bytes
-  fed_is bytes = ap (λ (r : Phased). r.phases) ((phasing limit m lawful).accepts [] bytes)
+  fed_is bytes = ap (λ (r : Answer Phases). r.value) ((phasing limit m lawful).accepts [] bytes)
 
   fed_on : (bytes piece : List ℕ) → searching.fed (searching.fed fresh bytes) piece ≡ searching.fed fresh (bytes ++ piece)
   fed_on bytes piece =
-      ap (λ (p : Phases). (phased_of p piece).phases) (fed_is bytes)
-      ∙ ap (λ (r : Phased). r.phases) ((phasing limit m lawful).accepts (bytes ∷ []) piece)
+      ap (λ (p : Phases). (phased_of p piece).value) (fed_is bytes)
+      ∙ ap (λ (r : Answer Phases). r.value) ((phasing limit m lawful).accepts (bytes ∷ []) piece)
       ∙ fed-all limit m lawful (bytes ∷ piece ∷ [])
       ∙ ap (λ (l : List ℕ). fed_phases fresh (bytes ++ l)) (append-nil piece)
       ∙ sym (fed_is (bytes ++ piece))

@@ -1,10 +1,13 @@
 -- `spurphases::with_mark` meets its contract. Assumes nothing.
-use native.Mathlib.Omega.{arith}
-use Rattle.spurphases.proofs.Wording.{mark-kept, mark-counted}
+use Prim.Native.Nat.{◌+◌}
+use mathlib.Core.Path.{ap, ◌∙◌}
+use Rattle.marks.specs.declared.Marks.{Marks}
+use Rattle.spurphases.proofs.Wording.{counted, mark-kept, mark-counted}
 use Rattle.spurphases.proofs.with_mark.Goals as goal
-
-pub returns-then-count-lt32 : goal.returns-then-count-lt32
-returns-then-count-lt32 c = let a = c.args in mark-kept a.marks a.slot a.number (omega arith)
+use Rattle.spurphases.proofs.with_mark.Goals.{then-marks-lt32, else-marks-lt32}
 
 pub returns : goal.returns
-returns c = let a = c.args in mark-counted a.marks a.slot a.number (omega arith)
+returns c = let a = c.args in
+    elim c.if-marks-lt32.branch
+    [ then-marks-lt32 w ↦ ap counted w.marks-is ∙ mark-kept a.marks a.mark w.if-marks-lt32.true
+    | else-marks-lt32 w ↦ ap counted w.marks-is ∙ mark-counted a.marks a.mark w.if-marks-lt32.false ]

@@ -1,8 +1,0 @@
--- `spurphases::read_more` meets its contract. Assumes nothing.
-use Rattle.reading.proofs.Reading.{took_read}
-use Rattle.spurphases.specs.Pages.{searching, standing}
-use Rattle.spurphases.proofs.read_more.Goals as goal
-
-pub returns : goal.returns
-returns c = let got = c.read_once-got.ensures.value in
-    (got.0, took_read searching (standing c.args.input) _ _ _ got.1 c.take_in.ensures)
