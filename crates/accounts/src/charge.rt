@@ -14,6 +14,7 @@ use rules::Judge;
 
 // ---- a record
 
+// Stays: `counts` says what the record is, and each field is there whatever it says, so an Option around them is no plainer.
 // What of a record an account hangs on. `counts` says that it has START, ACK or RESET: no other record changes an entry.
 #[derive(Clone, Copy)]
 struct Shown {
@@ -46,6 +47,7 @@ fn shown_in(part: &[u8]) -> Shown
 
 // ---- the state
 
+// Stays: one place reads it, `pick(opened, stamp - began, 0)`; of an Option that is `map_or(0, |began| stamp - began)`, no plainer.
 // What is kept of the records before: the last one's stamp and RQST, the owner's slot, and whether a transfer is open and the cycle before its START.
 // So a record between START and ACK leaves it but for the first two.
 #[derive(Clone, Copy)]

@@ -90,6 +90,7 @@ pub fn fresh(limit: u8) -> Result<Ledger, Refusal>
     })
 }
 
+// Stays: it reads like `stream::feed`, but its promise is its own (`posted_of`), and a trait with laws over both is no plainer than four lines.
 // Goes on with the input's next piece, of any length, or refuses a state out of bounds by 5.
 #[tactic(auto, unfolding(usage::specs::Pieces::posted_of))]
 pub fn feed(ledger: Ledger, piece: &[u8]) -> Result<Ledger, Refusal>

@@ -4,6 +4,7 @@
 
 use rules::{Broken, Judge, Tally, Verdict};
 
+// Stays: `goes`, `stop_of` and `last_verdict` (feeding/specs/State) go by these three cases of document 01, and an Option or a Result has two.
 // What has ended the judging before the input's end, if anything has: a breach, or a whole record past 2^30.
 #[derive(Clone, Copy)]
 pub enum Stop {
@@ -12,6 +13,7 @@ pub enum Stop {
     PastMost,
 }
 
+// Stays: no heap, fixed memory; `padded` and `torn_of` (feeding/specs/State) say what `torn` and `held` hold.
 // The input so far: what its whole records came to, and the first `held` bytes of `torn`, which are those of a torn record.
 #[derive(Clone, Copy)]
 pub struct Stream {
@@ -22,6 +24,7 @@ pub struct Stream {
     pub held: usize,
 }
 
+// Stays: `opened` is an answer of its own, which document 01's judging program prints; no other field hangs on it.
 // What an input comes to: the verdict, the totals, and whether a transfer is open.
 #[derive(Clone, Copy)]
 pub struct Ending {

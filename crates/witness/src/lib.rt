@@ -50,8 +50,8 @@ fn sixteen_at(before: Stream, piece: &[u8], place: u32) -> [u8; 16]
     ensures { result ≡ padded (sixteen (torn_of before ++ piece.now) place) }
 {
     let mut next = [0u8; 16];
-    for i in 0..16 {
-        next[i] = byte_at(before, piece, place as usize * 16 + i);
+    for (i, byte) in next.iter_mut().enumerate() {
+        *byte = byte_at(before, piece, place as usize * 16 + i);
     }
     next
 }
