@@ -1,5 +1,5 @@
 -- Document 01, "Checked examples": "Of the cases below only those marked P are proved, gathered as one table under a single statement".
-use Rattle.std.specs.Prelude.{◌+◌, ◌^◌, ◌≡◌, [], ◌∷◌, ◌++◌, true, false, get_or, replicate}
+use Rattle.std.specs.Prelude.{◌+◌, ◌^◌, ◌≡◌, [], ◌∷◌, ◌++◌, true, false, Some, get_or, replicate}
 use Rattle.basics.specs.Answers.{accepted, refused}
 use Rattle.record.specs.declared.Record.{Record}
 use Rattle.record.specs.Layout.{packed}
@@ -7,7 +7,6 @@ use Rattle.record.specs.Packing.{blank}
 use Rattle.codes.specs.declared.Unit.TheVariants.{Halfword, Eight, Sixteen}
 use Rattle.codes.specs.Start.{decode_of, nothing_meant}
 use Rattle.codes.specs.Parity.{parity_of}
-use Rattle.contest.specs.declared.Winner.TheVariants.{Slot}
 use Rattle.contest.specs.Contest.{winner_of}
 use Rattle.rules.specs.Rules.{difference, rule2}
 use Rattle.cycle.specs.State.{fresh}
@@ -61,8 +60,8 @@ pub record Examples : Type 0 where
   pub p4_one : parity_of 0x80000000 ≡ true
   pub p4_all : parity_of 0xFFFFFFFF ≡ false
   -- P5 "contest 5 and 10: 10; 0 alone: 0."
-  pub p5_two : winner_of (2 ^ 5 + 2 ^ 10) ≡ Slot 10
-  pub p5_zero : winner_of (2 ^ 0) ≡ Slot 0
+  pub p5_two : winner_of (2 ^ 5 + 2 ^ 10) ≡ Some 10
+  pub p5_zero : winner_of (2 ^ 0) ≡ Some 0
   -- P6 "stamps FFFFFFFE to 3: difference 5. 0 to 80000000 passes; 0 to 80000001, and equal stamps, break rule 2."
   pub p6_wraps : difference 0xFFFFFFFE 3 ≡ 5
   pub p6-most : rule2 true (difference 0 0x80000000) ≡ true
