@@ -45,6 +45,8 @@ fn join(b: Bus, a: Arbitration, p: Progress) -> Moved
 }
 
 // A cycle with no reset.
+// Stays: `b.turn < b.limit` in the clauses of six functions, since a caller makes a `Bus` of any values and `step` refuses those out of bounds by 5
+// (`in_bounds`); a type for those that pass would be taken apart again in each.
 #[tactic(auto, unfolding(cycle::specs::Cycle::cycle_of, cycle::specs::Cycle::cycle_by))]
 fn cycle(b: Bus, e: Event, sets: Sets) -> Moved
     requires { b.turn < b.limit }

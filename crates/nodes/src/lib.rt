@@ -39,6 +39,7 @@ pub fn gather(nodes: &[Node]) -> Sets
     ensures { result ≡ sets_of nodes.now }
 {
     let mut sets = Sets::default();
+    // Stays: over the slots and not the table's items, since `sets_of` is of sixteen slots and a table may lack some.
     for slot in 0..16 {
         let node = nodes.get(slot).copied().unwrap_or_default();
         sets = add_node(sets, slot, node);

@@ -18,6 +18,7 @@ pub struct Worst {
 
 // While a wave has members, the next START comes at most so many cycles after the last: the watchdog's for each word (document 02, wish 5), and in
 // the cycle behind the ACK.
+// Stays: `as` and not `From`, which a const can't call.
 const PAUSE: u32 = Bus::WATCHDOG as u32 * Bus::WORDS_MOST as u32 + 1;
 
 // The STARTs of others in waves.
