@@ -1,18 +1,17 @@
 -- The median of some numbers is what it is called. Assumes nothing.
-use Prim.Native.Nat.{ℕ, ◌*◌, ◌≤◌, ◌<◌, min}
+use Prim.Native.Nat.{ℕ, ◌*◌, ◌≤◌, ◌<◌}
 use mathlib.Core.Bool.{true, false≢true}
 use mathlib.Core.List.Memᴰ
-use mathlib.Core.List.{List, [], ◌∷◌, foldl}
+use mathlib.Core.List.{List, [], ◌∷◌}
 use mathlib.Core.Logic.{⊎_elim}
 use mathlib.Core.Path.{◌≡◌, refl, sym, ap, ◌∙◌}
 use native.Mathlib.Omega.{arith}
-use native.Mathlib.Nat.{min-eq_right}
 use borrow.Author.Tests.{le-leb, leb-true}
 use lib.Dec.{leb}
 use lib.ListN.{length}
 use Rattle.basics.specs.Lines.{one}
 use Rattle.basics.proofs.Bools.{choice}
-use Rattle.fleet.specs.Figures.{least_of, greatest_of, within, half_within, halving, median_of}
+use Rattle.fleet.specs.Figures.{greatest_of, within, half_within, halving, median_of}
 use Rattle.fleet.specs.Meaning.{OneOf, IsMedian}
 use Rattle.fleet.proofs.Members.{one-some, least_is, greatest_is}
 
