@@ -22,8 +22,9 @@ use Rattle.record.specs.Packing.{blank}
 use Rattle.rowlines.specs.Rows.{row_line}
 use Rattle.vcdlines.specs.Dump.{change_text, end_text}
 use Rattle.spurshow.specs.declared.Asked.{Asked}
-use Rattle.spurshow.specs.declared.Ending.{Ending}
-use Rattle.spurshow.specs.declared.Ending.TheVariants.{Fine, NoRecord, TooMany, Torn}
+use Rattle.std.specs.Prelude.{Result, Ok, Err}
+use Rattle.spurshow.specs.declared.Amiss.{Amiss}
+use Rattle.spurshow.specs.declared.Amiss.TheVariants.{NoRecord, TooMany, Torn}
 use Rattle.spurshow.specs.Shown.{goes, row_of, head_of, dump_of, text_of, shown, walked_over, records_of, ending_of, last_of}
 use Rattle.spurshow.specs.Pages.{row_at, before, dump_at, text_at, each, behind_last, last_at, page_in, ending_in, printed_of, WholeButLast}
 use Rattle.spurshow.proofs.Showing.{going, text_none, text_some, shown_over, walked_over_lem, shown_pieces, walked_pieces}
@@ -166,7 +167,7 @@ ending-all a x y whole e =
     let after : (walked_over a w (records_of y)).place ≡ b = ap (λ (v : Walk). v.place) (sym (walked_pieces a fresh_walk x y whole) ∙ walked_all a (x ++ y)) ∙ place_at (recording_in (x ++ y)).lines b in
     let n : w.place + length y / 16 ≡ 0 + length (x ++ y) / 16 = omega arith in
     let m : length y % 16 ≡ length (x ++ y) % 16 = omega arith in
-    let f : ℕ → ℕ → ℕ → Ending = λ b n m. cond (leb b a.from) NoRecord (cond (ltb a.to b) Fine (cond (ltb most_records n) TooMany (cond (eqb m 0) Fine Torn))) in
+    let f : ℕ → ℕ → ℕ → Result (Unit {0}) Amiss = λ b n m. cond (leb b a.from) (Err NoRecord) (cond (ltb a.to b) (Ok tt) (cond (ltb most_records n) (Err TooMany) (cond (eqb m 0) (Ok tt) (Err Torn)))) in
     ap (λ (k : ℕ). f k (w.place + length y / 16) (length y % 16)) after ∙ ap (λ (k : ℕ). f b k (length y % 16)) n ∙ ap (f b (0 + length (x ++ y) / 16)) m
 
 -- ---- in pieces

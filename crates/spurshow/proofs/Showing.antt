@@ -30,8 +30,8 @@ use Rattle.rowlines.proofs.RowLaws.{row-most}
 use Rattle.vcdlines.specs.Dump.{change_text, end_text}
 use Rattle.vcdlines.proofs.ChangeLaws.{change_most, head_most, time-most}
 use Rattle.spurshow.specs.declared.Asked.{Asked}
-use Rattle.spurshow.specs.declared.Ending.TheVariants.{Fine, NoRecord, TooMany, Torn}
-use Rattle.std.specs.Prelude.{Result, Ok}
+use Rattle.spurshow.specs.declared.Amiss.TheVariants.{NoRecord, TooMany, Torn}
+use Rattle.std.specs.Prelude.{Result, Ok, Err}
 use Rattle.basics.specs.declared.refusal.Refusal.{Refusal}
 use Rattle.basics.specs.Answers.{answered}
 use Rattle.basics.proofs.Refusals.{one_result}
@@ -276,31 +276,31 @@ module _ (a : Asked) (w₀ : Walk) (piece text₀ : List ℕ) (n : ℕ) where
 
 -- ---- the end
 module _ (a : Asked) (earlier size after : ℕ) where
-  pub end_none : after ≤ a.from → NoRecord ≡ ending_of a earlier size after
+  pub end_none : after ≤ a.from → Err NoRecord ≡ ending_of a earlier size after
   unfolding ending_of
   end_none h = sym (cond-true _ _ (le-leb after a.from h))
 
   module _ (some : a.from < after) where
-    pub end-shown : a.to < after → Fine ≡ ending_of a earlier size after
+    pub end-shown : a.to < after → Ok tt ≡ ending_of a earlier size after
     unfolding ending_of
     end-shown h = sym (cond-false _ _ (lt-leb after a.from some) ∙ cond-true _ _ (lt-ltb a.to after h))
 
     module _ (more : after ≤ a.to) where
-      pub end-many : most_records < earlier + size / 16 → TooMany ≡ ending_of a earlier size after
+      pub end-many : most_records < earlier + size / 16 → Err TooMany ≡ ending_of a earlier size after
       unfolding ending_of
       end-many h =
           sym (cond-false _ _ (lt-leb after a.from some) ∙ cond-false _ _ (le-ltb a.to after more) ∙ cond-true _ _ (lt-ltb most_records (earlier + size / 16) h))
 
       module _ (few : earlier + size / 16 ≤ most_records) where
-        inside : ending_of a earlier size after ≡ cond (eqb (size % 16) 0) Fine Torn
+        inside : ending_of a earlier size after ≡ cond (eqb (size % 16) 0) (Ok tt) (Err Torn)
         unfolding ending_of
         inside =
             cond-false _ _ (lt-leb after a.from some) ∙ cond-false _ _ (le-ltb a.to after more) ∙ cond-false _ _ (le-ltb most_records (earlier + size / 16) few)
 
-        pub end_whole : size % 16 ≡ 0 → Fine ≡ ending_of a earlier size after
+        pub end_whole : size % 16 ≡ 0 → Ok tt ≡ ending_of a earlier size after
         end_whole h = sym (inside ∙ cond-true _ _ (eq-eqb (size % 16) 0 h))
 
-        pub end-torn : (size % 16 ≡ 0 → ⊥) → Torn ≡ ending_of a earlier size after
+        pub end-torn : (size % 16 ≡ 0 → ⊥) → Err Torn ≡ ending_of a earlier size after
         end-torn h = sym (inside ∙ cond-false _ _ (ne_eqb (size % 16) 0 h))
 
 -- the end of a dump at the front of a buffer, and of what is none

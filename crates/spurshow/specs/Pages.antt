@@ -1,6 +1,6 @@
 -- WHAT THE PROGRAM SHOWS, said of the recording itself: the recording that all the bytes of the input hold (`recording_in`), the cycle in which each record
 -- stands and the gap before it (`cycle`, `gap`, of rules/specs/Recording).
-use Rattle.std.specs.Prelude.{ℕ, zero, suc, ◌+◌, ◌-◌, ◌/◌, ◌%◌, min, cond, ◌&&◌, List, [], ◌∷◌, ◌++◌, ◌≡◌, eqb, ltb, length}
+use Rattle.std.specs.Prelude.{ℕ, zero, suc, ◌+◌, ◌-◌, ◌/◌, ◌%◌, min, cond, ◌&&◌, List, [], ◌∷◌, ◌++◌, ◌≡◌, eqb, ltb, length, Result}
 use Rattle.rules.specs.Recording.{Recording, recording_in, gap, cycle}
 use Rattle.rules.specs.Verdict.{most_records}
 use Rattle.record.specs.Packing.{blank}
@@ -8,7 +8,7 @@ use Rattle.rowlines.specs.Rows.{row_line}
 use Rattle.vcdlines.specs.Dump.{change_text, end_text}
 use Rattle.walk.specs.declared.Walk.{Walk}
 use Rattle.spurshow.specs.declared.Asked.{Asked}
-use Rattle.spurshow.specs.declared.Ending.{Ending}
+use Rattle.spurshow.specs.declared.Amiss.{Amiss}
 use Rattle.spurshow.specs.Shown.{head_of, shown, walked_over, records_of, last_of, ending_of}
 
 -- the row of the record at place i
@@ -50,7 +50,7 @@ page_in a bytes =
     ++ last_at a (recording_in bytes) (behind_last a (length bytes / 16))
 
 -- and what is wrong at its end, as of one piece
-abbrev pub ending_in : Asked → List ℕ → Ending
+abbrev pub ending_in : Asked → List ℕ → Result (Unit {0}) Amiss
 ending_in a bytes = ending_of a 0 (length bytes) (behind_last a (length bytes / 16))
 
 -- ---- in pieces

@@ -1,6 +1,6 @@
 -- What is shown of a recording: "one line for each record from place FROM to place TO, both counted from 0 and included, as far as there are records".
 -- Here as the program makes it, from a walk on and piece by piece; of the recording itself it is said in specs/Pages.
-use Rattle.std.specs.Prelude.{ℕ, ◌+◌, ◌-◌, ◌*◌, ◌/◌, ◌%◌, min, Bool, true, false, cond, ◌&&◌, List, [], ◌∷◌, ◌++◌, eqb, ltb, leb, length, Option, Some, None}
+use Rattle.std.specs.Prelude.{ℕ, ◌+◌, ◌-◌, ◌*◌, ◌/◌, ◌%◌, min, Bool, true, false, cond, ◌&&◌, List, [], ◌∷◌, ◌++◌, eqb, ltb, leb, length, Option, Some, None, Result, Ok, Err}
 use Rattle.rules.specs.Run.{Taken, records_in}
 use Rattle.rules.specs.Verdict.{most_records}
 use Rattle.walk.specs.declared.Walk.{Walk}
@@ -9,8 +9,8 @@ use Rattle.rowlines.specs.Rows.{row_line}
 use Rattle.vcdlines.specs.Dump.{change_text, end_text}
 use Rattle.vcdlines.specs.Head.{head_text}
 use Rattle.spurshow.specs.declared.Asked.{Asked}
-use Rattle.spurshow.specs.declared.Ending.{Ending}
-use Rattle.spurshow.specs.declared.Ending.TheVariants.{Fine, NoRecord, TooMany, Torn}
+use Rattle.spurshow.specs.declared.Amiss.{Amiss}
+use Rattle.spurshow.specs.declared.Amiss.TheVariants.{NoRecord, TooMany, Torn}
 
 -- more records are to be walked: "It reads no further than record TO", and "at a whole record past 2^30 it stops"
 unfoldable pub goes : Asked → Walk → Bool
@@ -57,12 +57,12 @@ piece_of a place = min 1024 ((a.to + 1 - place) * 16)
 -- what is wrong where the program reads no further: so many records were walked before the last piece, which has so many bytes, and so many after it.
 -- "where no record is in the range .. `no record is in the range`"; nothing where record TO was shown; "at a whole record past 2^30 .. `more than 2^30
 -- records`"; "Where it comes to a torn end before that .. `the recording ends within a record`"
-unfoldable pub ending_of : Asked → ℕ → ℕ → ℕ → Ending
+unfoldable pub ending_of : Asked → ℕ → ℕ → ℕ → Result (Unit {0}) Amiss
 ending_of a earlier size after =
-    cond (leb after a.from) NoRecord
-    (cond (ltb a.to after) Fine
-    (cond (ltb most_records (earlier + size / 16)) TooMany
-    (cond (eqb (size % 16) 0) Fine Torn)))
+    cond (leb after a.from) (Err NoRecord)
+    (cond (ltb a.to after) (Ok tt)
+    (cond (ltb most_records (earlier + size / 16)) (Err TooMany)
+    (cond (eqb (size % 16) 0) (Ok tt) (Err Torn))))
 
 -- "At the end `#` and the cycle behind the last record shown", in a dump that shows one
 unfoldable pub last_of : Asked → Walk → List ℕ

@@ -133,8 +133,7 @@ fn show_piece(asked: Asked, walk: Walk, piece: &[u8], text: &mut [u8]) -> Part
 
 // What is wrong at the end of the input, or where it is read no further.
 #[derive(Clone, Copy)]
-enum Ending {
-    Fine,
+enum Amiss {
     NoRecord,
     TooMany,
     Torn,
@@ -142,22 +141,22 @@ enum Ending {
 }
 
 // From the records walked before the last piece, the piece's size, and the records walked after it.
-fn end_found(asked: Asked, earlier: u32, size: usize, after: u32) -> Ending
+fn end_found(asked: Asked, earlier: u32, size: usize, after: u32) -> Result<(), Amiss>
     ensures { result ≡ ending_of asked earlier size after }
 {
     if after as u64 <= asked.from {
-        return Ending::NoRecord;
+        return Err(Amiss::NoRecord);
     }
     if asked.to < after as u64 {
-        return Ending::Fine;
+        return Ok(());
     }
     if (Judge::MOST_RECORDS as u64) < earlier as u64 + (size / 16) as u64 {
-        return Ending::TooMany;
+        return Err(Amiss::TooMany);
     }
     if size % 16 == 0 {
-        return Ending::Fine;
+        return Ok(());
     }
-    Ending::Torn
+    Err(Amiss::Torn)
 }
 
 // The end of a dump at the front of the lent buffer: the cycle behind that of the last record shown, where one is.
@@ -259,15 +258,20 @@ fn print(rt: &HostRuntime, page: &[u8]) {
 }
 
 // At the end of the input, whether the last read came to it: where it failed instead, the next fails too.
-fn checked(stdin: Stdin, end: Ending, short: bool, buffer: &mut [u8]) -> Ending {
+fn checked(
+    stdin: Stdin,
+    end: Result<(), Amiss>,
+    short: bool,
+    buffer: &mut [u8],
+) -> Result<(), Amiss> {
     if short && reading::read_once(stdin, buffer).failed {
-        return Ending::CantRead;
+        return Err(Amiss::CantRead);
     }
     end
 }
 
 // Shows the records of standard input piece by piece.
-fn show(rt: &HostRuntime, asked: Asked) -> Ending {
+fn show(rt: &HostRuntime, asked: Asked) -> Result<(), Amiss> {
     let mut piece = [0; PIECE];
     let mut text = io::large_buffer();
     let mut walk = Walk::fresh();
@@ -287,17 +291,15 @@ fn show(rt: &HostRuntime, asked: Asked) -> Ending {
             return checked(rt.stdin(), end, short & !over, &mut piece);
         }
     }
-    Ending::TooMany
+    Err(Amiss::TooMany)
 }
 
-// What there is to complain of, where anything is wrong.
-fn complain_of(rt: &HostRuntime, end: Ending) {
-    match end {
-        Ending::Fine => {}
-        Ending::NoRecord => complain(rt, b"spurshow: no record is in the range\n"),
-        Ending::TooMany => complain(rt, b"spurshow: more than 2^30 records\n"),
-        Ending::Torn => complain(rt, b"spurshow: the recording ends within a record\n"),
-        Ending::CantRead => complain(rt, b"spurshow: standard input can't be read\n"),
+fn complain_of(rt: &HostRuntime, amiss: Amiss) {
+    match amiss {
+        Amiss::NoRecord => complain(rt, b"spurshow: no record is in the range\n"),
+        Amiss::TooMany => complain(rt, b"spurshow: more than 2^30 records\n"),
+        Amiss::Torn => complain(rt, b"spurshow: the recording ends within a record\n"),
+        Amiss::CantRead => complain(rt, b"spurshow: standard input can't be read\n"),
     }
 }
 
@@ -307,7 +309,11 @@ fn complain(rt: &HostRuntime, line: &[u8]) {
 
 fn main(rt: HostRuntime) {
     match request_given(&rt) {
-        Some(asked) => complain_of(&rt, show(&rt, asked)),
+        Some(asked) => {
+            if let Err(amiss) = show(&rt, asked) {
+                complain_of(&rt, amiss);
+            }
+        }
         None => complain(
             &rt,
             b"spurshow: it takes rows or vcd, and the places of the first and the last record as numbers\n",
