@@ -33,6 +33,7 @@ fn keep(numbers: &mut [u64], at: usize, figure: Option<u64>) -> bool
 }
 
 // Takes in the words behind the program's name, so many, and answers whether each of them is a figure.
+// Stays: no `?` at the first word that is none, since the clause `amiss` of `Prints` speaks of all the words.
 fn take_words(rt: &impl Env, count: usize, numbers: &mut [u64]) -> bool
     requires { count ≤ length numbers.old }
     ensures { Given count numbers.new result }

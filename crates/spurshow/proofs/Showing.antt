@@ -35,7 +35,7 @@ use Rattle.std.specs.Prelude.{Result, Ok, Err}
 use Rattle.basics.specs.declared.refusal.Refusal.{Refusal}
 use Rattle.basics.specs.Answers.{answered}
 use Rattle.basics.proofs.Refusals.{one_result}
-use Rattle.spurshow.specs.Shown.{goes, row_of, head_of, dump_of, text_of, shown, walked_over, records_of, ending_of, last_of, range_of}
+use Rattle.spurshow.specs.Shown.{goes, row_of, head_of, dump_of, text_of, shown, walked_over, records_of, ending_of, last_of}
 
 pub on_of : (b : Bool) → not b ≡ false → b ≡ true
 on_of true e = refl

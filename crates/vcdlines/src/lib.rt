@@ -130,6 +130,7 @@ fn put_step<const N: usize>(
 }
 
 // No line is active: so reads a record of which there is no byte.
+// Stays: the clause of `Record::default` says each field, and that these are `blank` is a law that record has for itself alone.
 fn inactive() -> Record
     ensures { result ≡ blank }
 {
@@ -172,6 +173,7 @@ fn put_text<const N: usize>(
 
 // Puts the text of a record at the place, or nothing where it does not fit. It is the first one shown, or stands so many cycles, gap, behind the last one
 // shown, which stood in stood.
+// Stays: its numbers go one by one, in the order in which `change_text` takes them (a public signature, which docs/PROMISES.md names).
 pub fn put_change(
     buffer: &mut [u8],
     place: Place,

@@ -1,6 +1,6 @@
 -- `spurshow::show_record` meets its contract. Assumes nothing.
 use mathlib.Core.Path.{sym, ap, ◌∙◌}
-use Rattle.rules.specs.Run.{Taken, taken_in}
+use Rattle.rules.specs.Run.{Taken}
 use Rattle.walk.specs.declared.Walked.{Walked}
 use Rattle.walk.specs.Walks.{onward}
 use Rattle.printed.proofs.AddingLaws.{adds_as}
