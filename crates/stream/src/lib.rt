@@ -3,7 +3,6 @@
 #![tactic(auto)]
 
 ghost use Rattle.std.specs.Prelude.{◌≡◌, true, List, ◌++◌, ℕ, ◌+◌, ◌-◌, ◌^◌, ◌≤◌, ◌<◌, length, take, []};
-ghost use Rattle.std.proofs.Math.Seq.{paste};
 ghost use Rattle.rules.specs.Bounds.{SoundJudge, SoundTally};
 ghost use Rattle.rules.specs.Exact.{joined};
 ghost use Rattle.rules.specs.State.{zero_tally};
@@ -13,6 +12,7 @@ ghost use Rattle.feeding.specs.declared.Stop.TheVariants.{Going};
 ghost use Rattle.feeding.specs.Input.{Answers};
 ghost use Rattle.feeding.specs.State.{goes, torn_of, stream_bounds, stop_of, state_with, gone_on, fresh_stream, no_stream, fresh_of, feed_of, fed_of, last_verdict, finish_of};
 ghost use Rattle.feeding.specs.Pieces.{fed_all};
+ghost use Rattle.stream.specs.Parts.{filled_of};
 
 use basics::Refusal;
 use feeding::{Ending, Stop, Stream};
@@ -25,11 +25,17 @@ pub fn is_going(stop: Stop) -> bool
     matches!(stop, Stop::Going)
 }
 
-// The array with the bytes of `part` in it, from its place `at` on.
+// The array with the bytes of `part` in it, from its place `at` on, or as it is where they have no room there.
+#[tactic(auto, unfolding(crate::specs::Parts::filled_of))]
 pub fn filled(array: [u8; 16], at: usize, part: &[u8]) -> [u8; 16]
-    requires { at + length part.now ≤ 16 }
-    ensures { result ≡ paste array at part.now (length part.now) }
+    ensures { result ≡ filled_of array at part.now }
 {
+    if part.len() > 16 {
+        return array;
+    }
+    if at > 16 - part.len() {
+        return array;
+    }
     let mut next = array;
     next[at..at + part.len()].copy_from_slice(part);
     next

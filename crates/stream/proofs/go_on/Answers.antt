@@ -3,6 +3,8 @@ use mathlib.Core.Path.{sym}
 use native.Mathlib.Omega.{arith}
 use lib.Seq.{length-take-le}
 use Rattle.feeding.proofs.GoOn.{behind_in}
+use borrow.Author.Rules.{rules}
+use Rattle.stream.proofs.Parts.{filled_in}
 use Rattle.stream.proofs.Calls.{part_few, went_on}
 use Rattle.stream.proofs.go_on.Goals as goal
 
@@ -14,9 +16,6 @@ slice_bounds-filled-count c = (behind_in c.is_going.result c.args.bytes.now c.pi
 
 pub slice_bounds-filled-start : goal.slice_bounds-filled-start
 slice_bounds-filled-start c = (behind_in c.is_going.result c.args.bytes.now c.pick-behind.result c.pick-behind.ensures).0
-
-pub filled-torn-requires : goal.filled-torn-requires
-filled-torn-requires c = part_few c.is_going.result c.args.bytes.now c.pick-behind.result c.pick-behind.ensures
 
 pub overflow_sub-held : goal.overflow_sub-held
 overflow_sub-held c = (behind_in c.is_going.result c.args.bytes.now c.pick-behind.result c.pick-behind.ensures).0
@@ -36,4 +35,4 @@ returns c = let a = c.args in
     c.stop_of-stop.ensures
     c.is_going.ensures
     c.pick-behind.ensures
-    c.filled-torn.ensures
+    (filled_in _ 0 _ c.filled-torn.result (search rules) (part_few c.is_going.result c.args.bytes.now c.pick-behind.result c.pick-behind.ensures) c.filled-torn.ensures)
