@@ -66,6 +66,7 @@ fn put_change(out: &mut [u8; 64], change: Result<(), Refusal>) {
 }
 
 // Calls 14 to 16, on the tables as they are lent.
+// Stays: three slices beside each other, since the library's calls take them so (`cache::read`, the caller's bytes).
 fn on_tables(
     op: u8,
     call: &[u8; 64],

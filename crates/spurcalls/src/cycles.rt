@@ -76,6 +76,7 @@ pub(crate) fn fresh(call: &[u8; 64], out: &mut [u8; 64], bus: Bus) -> Bus {
     next
 }
 
+// Stays: a match and no `From`, since `Event` is another crate's type and a call's number is taken modulo 3.
 fn event_of(number: u8, status: Status) -> Event {
     match number % 3 {
         0 => Event::Nothing,

@@ -67,6 +67,7 @@ pub(crate) fn unpack(call: &[u8; 64], out: &mut [u8; 64]) {
     }
 }
 
+// Stays: a match and no `From<u8>`, since `Unit` is another crate's type and a call's number is taken modulo 7.
 fn unit_of(number: u8) -> Unit {
     match number % 7 {
         0 => Unit::Byte,
