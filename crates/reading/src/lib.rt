@@ -70,8 +70,9 @@ fn taken(got: isize, buffer: &[u8]) -> Brought
     ensures value { result ≡ brought_by (record { got = got; buffer = buffer.now }) }
     ensures prefix_len { IsPrefixLen result.size buffer.now }
 {
+    let size = io::count(got, buffer);
     Brought {
-        size: io::count(got, buffer),
+        size,
         failed: got < 0,
     }
 }

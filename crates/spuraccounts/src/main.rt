@@ -39,7 +39,12 @@ impl Machine for Accounting {
 }
 
 // Judges what the reads bring, with an account, and makes the text of it.
-fn account_input(stdin: Stdin, limit: u64, buffer: &mut [u8], text: &mut [u8]) -> Result<usize, CantRead>
+fn account_input(
+    stdin: Stdin,
+    limit: u64,
+    buffer: &mut [u8],
+    text: &mut [u8],
+) -> Result<usize, CantRead>
     requires { length text.old ≡ 1536 }
     ensures { Prints limit text.new result }
 {

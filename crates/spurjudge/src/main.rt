@@ -39,7 +39,12 @@ impl Machine for Judging {
 }
 
 // Judges what the reads bring, and makes the text of it.
-fn judge_input(stdin: Stdin, limit: u64, buffer: &mut [u8], text: &mut [u8]) -> Result<usize, CantRead>
+fn judge_input(
+    stdin: Stdin,
+    limit: u64,
+    buffer: &mut [u8],
+    text: &mut [u8],
+) -> Result<usize, CantRead>
     requires { length text.old ≡ 256 }
     ensures { Prints limit text.new result }
 {

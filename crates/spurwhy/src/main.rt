@@ -39,7 +39,12 @@ impl Machine for Explaining {
 }
 
 // Judges what the reads bring, and makes the text of it.
-fn explain_input(stdin: Stdin, limit: u64, buffer: &mut [u8], text: &mut [u8]) -> Result<usize, CantRead>
+fn explain_input(
+    stdin: Stdin,
+    limit: u64,
+    buffer: &mut [u8],
+    text: &mut [u8],
+) -> Result<usize, CantRead>
     requires { length text.old ≡ 320 }
     ensures { Prints limit text.new result }
 {

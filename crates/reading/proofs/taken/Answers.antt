@@ -6,6 +6,6 @@ use Rattle.reading.proofs.taken.Goals as goal
 pub returns : goal.returns
 returns c =
     record {
-      value = let a = c.args in taken_as (record { got = a.got; buffer = a.buffer.now }) c.count.result _ (to_z-of_z c.ranges.got) c.count.ensures.value;
-      prefix_len = c.count.ensures.in_bounds;
+      value = let a = c.args in taken_as (record { got = a.got; buffer = a.buffer.now }) c.count-size.result _ (to_z-of_z c.ranges.got) c.count-size.ensures.value;
+      prefix_len = c.count-size.ensures.in_bounds;
     }

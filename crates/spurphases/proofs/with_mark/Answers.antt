@@ -8,6 +8,7 @@ use Rattle.spurphases.proofs.with_mark.Goals.{then-marks-lt32, else-marks-lt32}
 
 pub returns : goal.returns
 returns c = let a = c.args in
-    elim c.if-marks-lt32.branch
-    [ then-marks-lt32 w ↦ ap counted w.marks-is ∙ mark-kept a.marks a.mark w.if-marks-lt32.true
-    | else-marks-lt32 w ↦ ap counted w.marks-is ∙ mark-counted a.marks a.mark w.if-marks-lt32.false ]
+    elim c.if-marks-lt32.branch [
+      | then-marks-lt32 w ↦ ap counted w.marks-is ∙ mark-kept a.marks a.mark w.if-marks-lt32.true
+      | else-marks-lt32 w ↦ ap counted w.marks-is ∙ mark-counted a.marks a.mark w.if-marks-lt32.false
+    ]
