@@ -1,30 +1,22 @@
 -- The text that the program makes is that of the whole input. Assumes nothing.
-use Prim.Native.Nat.{ℕ, min, ◌≤◌}
+use Prim.Native.Nat.{ℕ, ◌≤◌}
 use mathlib.Core.Bool.{true, false}
 use mathlib.Core.List.{List, [], ◌∷◌, ◌++◌, append-nil}
-use mathlib.Core.Path.{◌≡◌, refl, sym, ap, subst, ◌∙◌}
-use native.Mathlib.Omega.{arith}
+use mathlib.Core.Path.{◌≡◌, refl, sym, ap, ◌∙◌}
 use lib.ListN.{length}
 use Rattle.basics.specs.Numbers.{lawful_limit}
-use Rattle.basics.proofs.Bools.{cond-true, cond-false}
+use Rattle.basics.proofs.Bools.{cond-true}
 use Rattle.feeding.specs.State.{goes}
 use Rattle.usage.specs.declared.Ledger.{Ledger}
 use Rattle.usage.specs.declared.Closing.{Closing}
-use Rattle.usage.specs.Pieces.{fresh_ledger, begun_of, closing_of, reckoning_of}
+use Rattle.usage.specs.Pieces.{fresh_ledger, closing_of, reckoning_of}
 use Rattle.usage.proofs.Pieces.{reckoning}
-use Rattle.text.specs.declared.Place.{Place}
-use Rattle.text.specs.Places.{front, moved_by, put_at, Holds}
-use Rattle.printed.specs.Lines.{refused_line}
-use Rattle.printed.proofs.LineLaws.{refusal-most}
 use Rattle.accountlines.specs.Lines.{closing_lines, accounts_page}
 use Rattle.accountlines.proofs.LineLaws.{closing_most}
-use Rattle.std.specs.Prelude.{Ok}
 use Rattle.reading.specs.Reads.{Standing}
-use Rattle.reading.specs.Pages.{unlawful, Telling}
-use Rattle.reading.proofs.Narrow.{begun_lawful as begins-lawful, begun_unlawful as begins-unlawful}
+use Rattle.reading.specs.Pages.{Telling}
 use Rattle.reading.proofs.Reading.{heard-holds}
-use Rattle.reading.proofs.Printing.{holds_put, page_fits, page_says}
-use Rattle.spuraccounts.specs.Pages.{accounting, ReadOut, Prints}
+use Rattle.spuraccounts.specs.Pages.{accounting, ReadOut}
 use Rattle.spuraccounts.proofs.Reading.{fed-first, accounting_pieces}
 
 -- ---- an input that was read

@@ -1,26 +1,18 @@
 -- The text that the program makes is that of the whole input. Assumes nothing.
-use Prim.Native.Nat.{ℕ, min}
+use Prim.Native.Nat.{ℕ}
 use mathlib.Core.Bool.{true, false}
 use mathlib.Core.List.{List, [], ◌∷◌, ◌++◌, append-nil}
-use mathlib.Core.Path.{◌≡◌, refl, sym, ap, subst, ◌∙◌}
-use native.Mathlib.Omega.{arith}
-use lib.ListN.{length}
+use mathlib.Core.Path.{◌≡◌, refl, sym, ap, ◌∙◌}
 use Rattle.basics.specs.Numbers.{lawful_limit}
-use Rattle.basics.proofs.Bools.{cond-true, cond-false}
+use Rattle.basics.proofs.Bools.{cond-true}
 use Rattle.feeding.specs.declared.Stream.{Stream}
 use Rattle.feeding.specs.declared.Ending.{Ending}
 use Rattle.feeding.specs.Input.{ending_of}
-use Rattle.feeding.specs.State.{goes, fresh_stream, fresh_of, finish_of}
+use Rattle.feeding.specs.State.{goes, fresh_stream, finish_of}
 use Rattle.feeding.proofs.Feeding.{feeding}
-use Rattle.text.specs.declared.Place.{Place}
-use Rattle.text.specs.Places.{front, moved_by, put_at, Holds}
-use Rattle.printed.specs.Lines.{refused_line, lines_of, page_of}
-use Rattle.printed.proofs.LineLaws.{lines-most, refusal-most}
-use Rattle.std.specs.Prelude.{Ok}
-use Rattle.reading.specs.Pages.{unlawful, Telling}
-use Rattle.reading.proofs.Narrow.{begun_lawful as begins-lawful, begun_unlawful as begins-unlawful}
-use Rattle.reading.proofs.Printing.{holds_put, page_fits, page_says}
-use Rattle.spurjudge.specs.Pages.{judging, Prints}
+use Rattle.printed.specs.Lines.{lines_of, page_of}
+use Rattle.reading.specs.Pages.{Telling}
+use Rattle.spurjudge.specs.Pages.{judging}
 use Rattle.spurjudge.proofs.Reading.{fed-first}
 
 -- ---- an input that was read

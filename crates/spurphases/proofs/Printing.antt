@@ -2,31 +2,25 @@
 use Prim.Native.Nat.{ℕ, min}
 use mathlib.Core.Bool.{Bool, true, false}
 use mathlib.Core.List.{List, [], ◌∷◌, ◌++◌, append-nil}
-use mathlib.Core.Path.{◌≡◌, refl, sym, ap, subst, ◌∙◌}
+use mathlib.Core.Path.{◌≡◌, refl, sym, ap, ◌∙◌}
 use native.Mathlib.Omega.{arith}
-use lib.ListN.{length}
 use lib.Dec.{eqb}
 use borrow.Author.Tests.{eq-eqb, ne_eqb, eqb-true}
 use Rattle.basics.specs.Numbers.{lawful_limit}
 use Rattle.basics.specs.Order.{unless}
-use Rattle.basics.proofs.Bools.{choice, cond-true, cond-false}
+use Rattle.basics.proofs.Bools.{choice, cond-true}
 use Rattle.rules.proofs.Laws.{unless-zero}
-use Rattle.text.specs.declared.Place.{Place}
-use Rattle.text.specs.Places.{front, moved_by, put_at, Holds}
 use Rattle.marks.specs.declared.Marks.{Marks}
 use Rattle.std.specs.Prelude.{Result, Ok, Err}
 use Rattle.basics.specs.declared.refusal.Refusal.{Refusal}
-use Rattle.basics.specs.Answers.{Answer, accepted, refused, refusal_number, answered}
+use Rattle.basics.specs.Answers.{Answer, accepted, refusal_number, answered}
 use Rattle.basics.proofs.Refusals.{some_number}
 use Rattle.marks.specs.declared.Phases.{Phases}
 use Rattle.marks.specs.declared.Report.{Report}
 use Rattle.marks.specs.State.{some_marks, named_to, under_way, begin_refusal, fresh_phases, no_phases, begun_of, report_of}
 use Rattle.marks.specs.Pieces.{report_in}
 use Rattle.marks.proofs.Phasing.{phasing}
-use Rattle.printed.specs.Lines.{refused_line}
-use Rattle.printed.proofs.LineLaws.{refusal-most}
 use Rattle.phaselines.specs.Lines.{report_lines, phases_page}
-use Rattle.phaselines.proofs.LineLaws.{report_most}
 use Rattle.reading.specs.Pages.{Telling}
 use Rattle.reading.proofs.Narrow.{narrow_same, narrow_lawful}
 use Rattle.spurphases.specs.Pages.{searching}

@@ -1,6 +1,6 @@
 -- The words of the program of boot phases, as in `spurphases 16 3/4 12/0`: the hold limit, and then the marks (document 02, wish 1: "The caller names
 -- 1 to 32 marks in order, each a slot and an interrupt number"), each `S/N` in decimal.
-use Rattle.std.specs.Prelude.{ℕ, suc, ◌+◌, ◌-◌, min, true, false, cond, List, [], ◌∷◌, ◌≡◌, length, take, drop, set, eqb, ltb, Option, Some, None}
+use Rattle.std.specs.Prelude.{ℕ, suc, ◌+◌, ◌-◌, min, cond, List, [], ◌∷◌, ◌≡◌, length, take, drop, set, eqb, ltb, Option, Some, None}
 use Rattle.text.specs.Numbers.{number_of}
 use Rattle.marks.specs.declared.Mark.{Mark}
 use Rattle.marks.specs.declared.Marks.{Marks}

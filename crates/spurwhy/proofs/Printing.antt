@@ -1,31 +1,21 @@
 -- The text that the program makes is that of the whole input. Assumes nothing.
-use Prim.Native.Nat.{ℕ, min}
-use mathlib.Core.Bool.{true, false, cond}
+use Prim.Native.Nat.{ℕ}
+use mathlib.Core.Bool.{true, false}
 use mathlib.Core.List.{List, ◌++◌}
-use mathlib.Core.Path.{◌≡◌, refl, sym, ap, subst, ◌∙◌}
-use native.Mathlib.Omega.{arith}
-use lib.ListN.{length}
+use mathlib.Core.Path.{◌≡◌, refl, sym, ap, ◌∙◌}
 use Rattle.basics.specs.Numbers.{lawful_limit}
-use Rattle.basics.proofs.Bools.{cond-true, cond-false, push}
-use Rattle.feeding.specs.State.{goes, fresh_stream, no_stream, fresh_of}
+use Rattle.basics.proofs.Bools.{cond-true}
+use Rattle.feeding.specs.State.{goes}
 use Rattle.feeding.proofs.Feeding.{lawful_limits}
-use Rattle.text.specs.declared.Place.{Place}
-use Rattle.text.specs.Places.{front, moved_by, put_at, Holds}
-use Rattle.printed.specs.Lines.{refused_line}
-use Rattle.printed.proofs.LineLaws.{refusal-most}
 use Rattle.witness.specs.declared.Witness.{Witness}
 use Rattle.witness.specs.declared.Reason.{Reason}
-use Rattle.witness.specs.State.{no_record, fresh_witness, begun_of, reason_in}
+use Rattle.witness.specs.State.{fresh_witness, reason_in}
 use Rattle.witness.specs.Input.{reason_of}
 use Rattle.witness.proofs.Pieces.{reason_is, rest-same}
 use Rattle.whylines.specs.Lines.{reason_lines, why_page}
-use Rattle.whylines.proofs.LineLaws.{reason_most}
-use Rattle.std.specs.Prelude.{Ok}
-use Rattle.reading.specs.Pages.{unlawful, Telling}
-use Rattle.reading.proofs.Narrow.{begun_lawful as begins-lawful, begun_unlawful as begins-unlawful}
-use Rattle.reading.proofs.Printing.{holds_put, page_fits, page_says}
-use Rattle.spurwhy.specs.Pages.{explaining, Prints}
-use Rattle.spurwhy.proofs.Reading.{fed_is, explaining_pieces}
+use Rattle.reading.specs.Pages.{Telling}
+use Rattle.spurwhy.specs.Pages.{explaining}
+use Rattle.spurwhy.proofs.Reading.{fed_is}
 
 -- ---- an input that was read
 module _ (limit : ℕ) (lawful : lawful_limit limit ≡ true) where

@@ -1,7 +1,5 @@
 -- `spurphases::with_mark` meets its contract. Assumes nothing.
-use Prim.Native.Nat.{◌+◌}
 use mathlib.Core.Path.{ap, ◌∙◌}
-use Rattle.marks.specs.declared.Marks.{Marks}
 use Rattle.spurphases.proofs.Wording.{counted, mark-kept, mark-counted}
 use Rattle.spurphases.proofs.with_mark.Goals as goal
 use Rattle.spurphases.proofs.with_mark.Goals.{then-marks-lt32, else-marks-lt32}
