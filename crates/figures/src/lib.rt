@@ -44,19 +44,15 @@ pub fn figure_in(word: &[u8]) -> Option<u64>
 // The bases in which digits are put.
 #[derive(Clone, Copy)]
 pub enum Base {
-    Binary,
-    Decimal,
-    Hex,
+    Binary = 2,
+    Decimal = 10,
+    Hex = 16,
 }
 
 fn base_of(base: Base) -> u64
     ensures { (result ≡ base_of base) × (1 < result) × (result ≤ 16) }
 {
-    match base {
-        Base::Binary => 2,
-        Base::Decimal => 10,
-        Base::Hex => 16,
-    }
+    base as u64
 }
 
 fn glyph_of(d: u64) -> u8
