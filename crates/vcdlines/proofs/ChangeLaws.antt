@@ -1,12 +1,12 @@
 -- Laws of a record's text: a line by its test, the levels in fives, and how long a text is at most. Assumes nothing.
-use Prim.Native.Nat.{ℕ, suc, ◌+◌, ◌*◌, ◌≤◌, ◌<◌}
+use Prim.Native.Nat.{ℕ, suc, ◌+◌, ◌*◌, ◌≤◌}
 use mathlib.Core.Path.{◌≡◌, refl, sym, ap, ◌∙◌}
 use mathlib.Core.Bool.{Bool, true, false, not, ◌||◌}
 use mathlib.Core.List.{List, [], ◌∷◌, ◌++◌, append_assoc, append-nil}
 use native.Mathlib.Omega.{arith}
 use lib.Dec.{eqb}
-use lib.ListN.{length, take, drop, get_or, length-append, drop_of_length-le}
-use lib.Seq.{drop-cons}
+use lib.ListN.{length, take, drop, length-append, drop_of_length-le}
+use Rattle.std.proofs.lemmas.List.{nil_from_length}
 use Rattle.io.specs.Digits.{last_digits}
 use Rattle.basics.proofs.Bools.{choice, cond-true, cond-false}
 use Rattle.record.specs.declared.Record.{Record}
@@ -30,14 +30,13 @@ pub unchanged : (first : Bool) (code before after : ℕ) → (first || not (eqb 
 unfolding change_of
 unchanged first code before after t = cond-false _ _ t
 
--- the lines that are left from line k on: its own, and those behind it; none where there is no such line
-pub changes_from : (first : Bool) (code : ℕ) (xs ys : List ℕ) (k : ℕ) → k < length xs → k < length ys → changes_of first (code + k) (drop k xs) (drop k ys) ≡ change_of first (code + k) (get_or xs k 0) (get_or ys k 0) ++ changes_of first (code + suc k) (drop (suc k) xs) (drop (suc k) ys)
-changes_from first code xs ys k h l =
-    let next : code + suc k ≡ suc (code + k) = omega arith in
-    rw (drop-cons xs k 0 h, drop-cons ys k 0 l, next)
+-- where one record has no line left, none has changed
+pub no_befores : (first : Bool) (code : ℕ) (xs ys : List ℕ) → length xs ≡ 0 → changes_of first code xs ys ≡ []
+no_befores first code xs ys e = rw (nil_from_length xs e)
 
-pub changes_done : (first : Bool) (code : ℕ) (xs ys : List ℕ) (k : ℕ) → length xs ≤ k → changes_of first code (drop k xs) (drop k ys) ≡ []
-changes_done first code xs ys k h = rw (drop_of_length-le xs h)
+pub no_afters : (first : Bool) (code : ℕ) (xs ys : List ℕ) → length ys ≡ 0 → changes_of first code xs ys ≡ []
+no_afters first code [] ys e = refl
+no_afters first code (x ∷ xs) ys e = rw (nil_from_length ys e)
 
 -- ---- the levels in fives
 levels-append : (xs ys : List Signal) (r : Record) → levels_of (xs ++ ys) r ≡ levels_of xs r ++ levels_of ys r

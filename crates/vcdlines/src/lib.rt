@@ -108,8 +108,8 @@ fn put_changes<const N: usize>(
 )
     ensures { page.new ≡ grown N page.old (changes_of first first_code before.now after.now) }
 {
-    for k in 0..LINES {
-        put_if_changed(page, first, 33 + k as u8, before[k], after[k]);
+    for (k, (was, is)) in before.iter().zip(after).enumerate() {
+        put_if_changed(page, first, 33 + k as u8, *was, *is);
     }
 }
 
