@@ -40,8 +40,14 @@ fn add_mark<const N: usize>(page: &mut Page<N>, k: usize, span: u64, diff: u64)
 fn add_marks<const N: usize>(page: &mut Page<N>, report: Report)
     ensures { page.new ≡ grown N page.old (mark_lines report (min report.found 32)) }
 {
-    for k in 0..report.found.min(32) {
-        add_mark(page, k, report.spans[k], report.diffs[k]);
+    for (k, (span, diff)) in report
+        .spans
+        .iter()
+        .zip(&report.diffs)
+        .enumerate()
+        .take(report.found)
+    {
+        add_mark(page, k, *span, *diff);
     }
 }
 

@@ -11,5 +11,5 @@ abbrev pub invariant-loop-k : goal.invariant-loop-k
 invariant-loop-k g l = let left = l.k-iterator.iter in
     record {
       all : l.k-iterator.count + length left.a.rest.now ≡ 81;
-      put : grown g.row.N l.page (changes_of l.first (first_code + l.k-iterator.count) left.a.rest.now left.b.rest.now) ≡ grown g.row.N l.initial.page (changes_of l.first first_code l.before l.after)
+      put : grown g.row.N l.page (changes_of l.first (first_code + l.k-iterator.count) left.a.rest.now left.b.rest.now) ≡ grown g.row.N l.initial.page (changes_of l.first first_code l.before l.after);
     }
