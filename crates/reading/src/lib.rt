@@ -2,14 +2,15 @@
 // and the hold limit that they are given.
 #![tactic(auto)]
 
-ghost use Rattle.std.specs.Prelude.{◌≡◌, ◌≤◌, Bool, true, List, length, min, ℕ, ℤ};
+ghost use Rattle.std.specs.Prelude.{◌≡◌, ◌≤◌, Bool, true, List, length, min, take, ℕ, ℤ, Ok, Err};
 ghost use Rattle.std.specs.Io.KnownBytes.{Appends};
 ghost use Rattle.io.specs.Counts.{IsPrefixLen};
 ghost use Rattle.reading.specs.Reads.{brought_by, Feeder, taken_in, after_read, Piecewise, ReadOut};
-ghost use Rattle.reading.specs.Pages.{Telling, Prints};
+ghost use Rattle.reading.specs.Pages.{Telling, Making, Prints};
 ghost use Rattle.text.specs.Places.{front, moved_by, put_at};
 ghost use Rattle.reading.specs.Words.{limit_given};
 
+use basics::Refusal;
 use rules::Judge;
 use std::env::{Env, FillError};
 use std::io::{Read, Stdin, Write};
@@ -117,7 +118,7 @@ fn read_more<M: Machine>(stdin: Stdin, buffer: &mut [u8], input: Input<M::State>
 }
 
 // Reads until it need read no more.
-pub fn read_all<M: Machine>(stdin: Stdin, buffer: &mut [u8], begun: M::State) -> Input<M::State>
+fn read_all<M: Machine>(stdin: Stdin, buffer: &mut [u8], begun: M::State) -> Input<M::State>
     ensures { (fresh : M.State) → begun ≡ fresh → Piecewise M.feeder fresh → ReadOut M.feeder fresh result }
 {
     let mut input = Input {
@@ -135,7 +136,7 @@ pub fn read_all<M: Machine>(stdin: Stdin, buffer: &mut [u8], begun: M::State) ->
 }
 
 // Makes the text for an input that has been read: so many of the page's first bytes. There is none after a read that failed: what was not read may change it.
-pub fn told<M: Machine>(input: Input<M::State>, page: &mut [u8]) -> Result<usize, CantRead>
+fn told<M: Machine>(input: Input<M::State>, page: &mut [u8]) -> Result<usize, CantRead>
     ensures { (begun : M.State) (lawful : Bool) (text : List ℕ → List ℕ) → lawful ≡ true → Piecewise M.feeder begun → Telling M.feeder begun text M.says
         → length (M.says input.state) ≤ length page.old → ReadOut M.feeder begun input → Prints M.feeder begun lawful text page.new result }
 {
@@ -143,6 +144,25 @@ pub fn told<M: Machine>(input: Input<M::State>, page: &mut [u8]) -> Result<usize
         return Err(CantRead);
     }
     Ok(M::put_text(input.state, page).at)
+}
+
+// What a program makes of its input: it reads, and makes the text for that; or where its words were refused the refusal's line, and reads nothing.
+pub fn made<M: Machine>(
+    stdin: Stdin,
+    begun: Result<M::State, Refusal>,
+    buffer: &mut [u8],
+    page: &mut [u8],
+) -> Result<usize, CantRead>
+    ensures { (fresh : M.State) (lawful : Bool) (text : List ℕ → List ℕ) → Making M.feeder begun fresh lawful text M.says (length page.old)
+        → Prints M.feeder fresh lawful text page.new result }
+{
+    match begun {
+        Ok(state) => {
+            let input = read_all::<M>(stdin, buffer, state);
+            told::<M>(input, page)
+        }
+        Err(refusal) => Ok(printed::put_refused(page, Place::front(), refusal.number()).at),
+    }
 }
 
 // Writes a line to standard error, and answers whether all of it was written.
@@ -162,6 +182,29 @@ pub fn print<O: Write, E: Write>(out: &mut O, err: &mut E, page: &[u8], complain
         complain(err, complaint);
     }
     printed
+}
+
+// Prints what was made, so many of the page's first bytes; it complains where it can't, and where there is nothing since standard input can't be read.
+// Answers whether all of a text was written.
+pub fn show<O: Write, E: Write>(
+    out: &mut O,
+    err: &mut E,
+    made: Result<usize, CantRead>,
+    page: &[u8],
+    unwritten: &[u8],
+    unread: &[u8],
+) -> bool
+    ensures text { (n : ℕ) → made ≡ Ok n → result ≡ true → Appends (O.contents out.old) (O.contents out.new) (take n page.now) }
+    ensures silent { result ≡ true → err.new ≡ err.old }
+    ensures none { (why : CantRead) → made ≡ Err why → out.new ≡ out.old }
+{
+    match made {
+        Ok(n) => print(out, err, &page[..n.min(page.len())], unwritten),
+        Err(CantRead) => {
+            complain(err, unread);
+            false
+        }
+    }
 }
 
 // How many words the program was started with, its own name among them.
@@ -201,4 +244,13 @@ pub fn limit_given(words: usize, second: &[u8]) -> Option<u64>
         return None;
     }
     text::number_in(second)
+}
+
+// The hold limit of a program that takes nothing else, from the words that it was started with.
+pub fn only_limit(rt: &impl Env) -> Option<u64>
+    ensures { (count : ℕ) × (second : List ℕ) × (result ≡ limit_given count second) }
+{
+    let mut word = io::buffer();
+    let size = word_given(rt, 1, &mut word);
+    limit_given(words_given(rt), &word[..size])
 }

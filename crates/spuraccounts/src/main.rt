@@ -48,13 +48,8 @@ fn account_input(
     requires { length text.old ≡ 1536 }
     ensures { Prints limit text.new result }
 {
-    match accounts::fresh(reading::narrowed(limit)) {
-        Ok(fresh) => {
-            let input = reading::read_all::<Accounting>(stdin, buffer, fresh);
-            reading::told::<Accounting>(input, text)
-        }
-        Err(refusal) => Ok(printed::put_refused(text, Place::front(), refusal.number()).at),
-    }
+    let begun = accounts::fresh(reading::narrowed(limit));
+    reading::made::<Accounting>(stdin, begun, buffer, text)
 }
 
 // ---- the program
@@ -62,24 +57,19 @@ fn account_input(
 fn account(rt: &HostRuntime, limit: u64) {
     let mut buffer = io::large_buffer();
     let mut text = [0u8; 1536];
-    match account_input(rt.stdin(), limit, &mut buffer, &mut text) {
-        Ok(n) => reading::print(
-            &mut rt.stdout(),
-            &mut rt.stderr(),
-            &text[..n],
-            b"spuraccounts: standard output can't be written\n",
-        ),
-        Err(CantRead) => reading::complain(
-            &mut rt.stderr(),
-            b"spuraccounts: standard input can't be read\n",
-        ),
-    };
+    let made = account_input(rt.stdin(), limit, &mut buffer, &mut text);
+    reading::show(
+        &mut rt.stdout(),
+        &mut rt.stderr(),
+        made,
+        &text,
+        b"spuraccounts: standard output can't be written\n",
+        b"spuraccounts: standard input can't be read\n",
+    );
 }
 
 fn main(rt: HostRuntime) {
-    let mut word = io::buffer();
-    let size = reading::word_given(&rt, 1, &mut word);
-    match reading::limit_given(reading::words_given(&rt), &word[..size]) {
+    match reading::only_limit(&rt) {
         Some(limit) => account(&rt, limit),
         None => {
             reading::complain(

@@ -48,13 +48,8 @@ fn judge_input(
     requires { length text.old ≡ 256 }
     ensures { Prints limit text.new result }
 {
-    match stream::fresh(reading::narrowed(limit)) {
-        Ok(fresh) => {
-            let input = reading::read_all::<Judging>(stdin, buffer, fresh);
-            reading::told::<Judging>(input, text)
-        }
-        Err(refusal) => Ok(printed::put_refused(text, Place::front(), refusal.number()).at),
-    }
+    let begun = stream::fresh(reading::narrowed(limit));
+    reading::made::<Judging>(stdin, begun, buffer, text)
 }
 
 // ---- the program
@@ -62,24 +57,19 @@ fn judge_input(
 fn judge(rt: &HostRuntime, limit: u64) {
     let mut buffer = io::large_buffer();
     let mut text = [0u8; 256];
-    match judge_input(rt.stdin(), limit, &mut buffer, &mut text) {
-        Ok(n) => reading::print(
-            &mut rt.stdout(),
-            &mut rt.stderr(),
-            &text[..n],
-            b"spurjudge: standard output can't be written\n",
-        ),
-        Err(CantRead) => reading::complain(
-            &mut rt.stderr(),
-            b"spurjudge: standard input can't be read\n",
-        ),
-    };
+    let made = judge_input(rt.stdin(), limit, &mut buffer, &mut text);
+    reading::show(
+        &mut rt.stdout(),
+        &mut rt.stderr(),
+        made,
+        &text,
+        b"spurjudge: standard output can't be written\n",
+        b"spurjudge: standard input can't be read\n",
+    );
 }
 
 fn main(rt: HostRuntime) {
-    let mut word = io::buffer();
-    let size = reading::word_given(&rt, 1, &mut word);
-    match reading::limit_given(reading::words_given(&rt), &word[..size]) {
+    match reading::only_limit(&rt) {
         Some(limit) => judge(&rt, limit),
         None => {
             reading::complain(

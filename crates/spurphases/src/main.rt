@@ -128,13 +128,8 @@ fn report_input(
     requires { length text.old ≡ 4096 }
     ensures { Prints limit marks text.new result }
 {
-    match phases::fresh(reading::narrowed(limit), marks) {
-        Ok(fresh) => {
-            let input = reading::read_all::<Searching>(stdin, buffer, fresh);
-            reading::told::<Searching>(input, text)
-        }
-        Err(refusal) => Ok(printed::put_refused(text, Place::front(), refusal.number()).at),
-    }
+    let begun = phases::fresh(reading::narrowed(limit), marks);
+    reading::made::<Searching>(stdin, begun, buffer, text)
 }
 
 // ---- the program
@@ -142,18 +137,15 @@ fn report_input(
 fn report(rt: &HostRuntime, limit: u64, marks: Marks) {
     let mut buffer = io::large_buffer();
     let mut text = [0u8; 4096];
-    match report_input(rt.stdin(), limit, marks, &mut buffer, &mut text) {
-        Ok(n) => reading::print(
-            &mut rt.stdout(),
-            &mut rt.stderr(),
-            &text[..n],
-            b"spurphases: standard output can't be written\n",
-        ),
-        Err(CantRead) => reading::complain(
-            &mut rt.stderr(),
-            b"spurphases: standard input can't be read\n",
-        ),
-    };
+    let made = report_input(rt.stdin(), limit, marks, &mut buffer, &mut text);
+    reading::show(
+        &mut rt.stdout(),
+        &mut rt.stderr(),
+        made,
+        &text,
+        b"spurphases: standard output can't be written\n",
+        b"spurphases: standard input can't be read\n",
+    );
 }
 
 fn look(rt: &HostRuntime, limit: u64, words: usize) {

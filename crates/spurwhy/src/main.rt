@@ -48,13 +48,8 @@ fn explain_input(
     requires { length text.old ≡ 320 }
     ensures { Prints limit text.new result }
 {
-    match witness::fresh(reading::narrowed(limit)) {
-        Ok(fresh) => {
-            let input = reading::read_all::<Explaining>(stdin, buffer, fresh);
-            reading::told::<Explaining>(input, text)
-        }
-        Err(refusal) => Ok(printed::put_refused(text, Place::front(), refusal.number()).at),
-    }
+    let begun = witness::fresh(reading::narrowed(limit));
+    reading::made::<Explaining>(stdin, begun, buffer, text)
 }
 
 // ---- the program
@@ -62,24 +57,19 @@ fn explain_input(
 fn explain(rt: &HostRuntime, limit: u64) {
     let mut buffer = io::large_buffer();
     let mut text = [0u8; 320];
-    match explain_input(rt.stdin(), limit, &mut buffer, &mut text) {
-        Ok(n) => reading::print(
-            &mut rt.stdout(),
-            &mut rt.stderr(),
-            &text[..n],
-            b"spurwhy: standard output can't be written\n",
-        ),
-        Err(CantRead) => reading::complain(
-            &mut rt.stderr(),
-            b"spurwhy: standard input can't be read\n",
-        ),
-    };
+    let made = explain_input(rt.stdin(), limit, &mut buffer, &mut text);
+    reading::show(
+        &mut rt.stdout(),
+        &mut rt.stderr(),
+        made,
+        &text,
+        b"spurwhy: standard output can't be written\n",
+        b"spurwhy: standard input can't be read\n",
+    );
 }
 
 fn main(rt: HostRuntime) {
-    let mut word = io::buffer();
-    let size = reading::word_given(&rt, 1, &mut word);
-    match reading::limit_given(reading::words_given(&rt), &word[..size]) {
+    match reading::only_limit(&rt) {
         Some(limit) => explain(&rt, limit),
         None => {
             reading::complain(
