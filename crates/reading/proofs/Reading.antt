@@ -1,5 +1,5 @@
 -- Laws of a program's reads. Assumes nothing.
-use Prim.Native.Nat.{ℕ, ◌+◌, ◌≤◌}
+use Prim.Native.Nat.{ℕ, suc, ◌+◌, ◌≤◌, min}
 use mathlib.Core.Bool.{Bool, true, false, false≢true}
 use mathlib.Core.List.{List, [], ◌∷◌, ◌++◌, append-nil}
 use mathlib.Core.Path.{◌≡◌, refl, sym, ap, subst, ◌∙◌}
@@ -7,16 +7,31 @@ use native.Mathlib.Omega.{arith}
 use lib.IntN.{ℤ}
 use lib.ListN.{length, take, length-append}
 use lib.Dec.{eqb}
-use borrow.Author.Tests.{eq-eqb, ne_eqb, eqb-true, eqb-false}
+use borrow.Author.Tests.{eq-eqb, ne_eqb, eqb-true, eqb-false, leb-true}
 use Rattle.basics.proofs.Bools.{by-test, cond-true, cond-false, not-true}
 use Rattle.io.specs.Counts.{clamp_len}
-use Rattle.reading.specs.declared.Brought.{Brought}
+use Rattle.std.specs.Prelude.{Result, Ok, Err, pos, negsuc, cond}
+use Rattle.std.specs.Result.{result_unwrap_or, is_err}
+use Rattle.reading.specs.declared.CantRead.{CantRead}
 use Rattle.reading.specs.Reads.{Read, fails, brought_by, brought, Feeder, Standing, started, ended_by, fed_by, taken_in, after_read, Heard, start, later, ReadOut, Piecewise, bytes_most}
 
 -- ---- a read
-pub taken_as : (r : Read) (n : ℕ) (got : ℤ) → got ≡ r.got → n ≡ clamp_len got (length r.buffer) → ◌≡◌ {A = Brought} (record { size = n; failed = fails got }) (brought_by r)
-taken_as r n got e ne =
-    ap (λ (k : ℕ). record { size = k; failed = fails got }) ne ∙ ap (λ (z : ℤ). record { size = clamp_len z (length r.buffer); failed = fails z }) e
+pub none_taken : (r : Read) (got : ℤ) → got ≡ r.got → fails got ≡ true → Err (record {}) ≡ brought_by r
+none_taken r got ge e = sym (cond-true _ _ (ap fails (sym ge) ∙ e))
+
+pub some_taken : (r : Read) (n : ℕ) (got : ℤ) → got ≡ r.got → n ≡ clamp_len got (length r.buffer) → fails got ≡ false → Ok n ≡ brought_by r
+some_taken r n got ge ne e = ap Ok (ne ∙ ap (λ (z : ℤ). clamp_len z (length r.buffer)) ge) ∙ sym (cond-false _ _ (ap fails (sym ge) ∙ e))
+
+-- a read that failed brought no bytes
+failed_or : (got : ℤ) (most : ℕ) → result_unwrap_or {E = CantRead} (cond (fails got) (Err (record {})) (Ok (clamp_len got most))) 0 ≡ clamp_len got most
+failed_or (pos k) most =
+    ap (λ (b : Bool). result_unwrap_or {E = CantRead} (cond b (Err (record {})) (Ok (min k most))) 0)
+    (not-true (fails (pos k)) (λ e. let h = leb-true (suc k) 0 e in omega arith))
+failed_or (negsuc k) most = refl
+
+has_failed : (b : Bool) (n : ℕ) → is_err {E = CantRead} (cond b (Err (record {})) (Ok n)) ≡ b
+has_failed true n = refl
+has_failed false n = refl
 
 -- ---- what is fed
 module _ {S : Type 0} (p : Feeder S) where
@@ -36,9 +51,13 @@ module _ {S : Type 0} (p : Feeder S) where
       ∙ ap (λ (s : S). record { state = s; more = p.going s; failed = false }) is
       ∙ sym (taken-some i f bytes ne)
 
-  pub took_read : (i after : Standing S) (r : Read) (b : Brought) → b ≡ brought_by r → after ≡ taken_in p i b.failed (take b.size r.buffer) → after ≡ after_read p i r
+  pub took_read : (i after : Standing S) (r : Read) (b : Result ℕ CantRead) (failed : Bool) (size : ℕ) → b ≡ brought_by r → failed ≡ is_err b → size ≡ result_unwrap_or b 0
+      → after ≡ taken_in p i failed (take size r.buffer) → after ≡ after_read p i r
   unfolding after_read
-  took_read i after r b e is = is ∙ ap (λ (x : Brought). taken_in p i x.failed (take x.size r.buffer)) e
+  took_read i after r b failed size e fe se is =
+      is
+      ∙ ap (λ (x : Bool). taken_in p i x (take size r.buffer)) (fe ∙ ap is_err e ∙ has_failed (fails r.got) _)
+      ∙ ap (λ (n : ℕ). taken_in p i (fails r.got) (take n r.buffer)) (se ∙ ap (λ (x : Result ℕ CantRead). result_unwrap_or x 0) e ∙ failed_or r.got (length r.buffer))
 
 no_bytes : (bytes : List ℕ) → length bytes ≡ 0 → bytes ≡ []
 no_bytes [] e = refl

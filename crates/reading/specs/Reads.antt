@@ -1,10 +1,10 @@
 -- What a program makes of its reads. No contract can say which bytes a call of the system reads: a read is taken as what it answers and the
 -- buffer that it leaves, and all that follows from these is proved.
-use Rattle.std.specs.Prelude.{ℕ, ◌+◌, ◌*◌, ◌<◌, Bool, true, false, cond, List, [], ◌++◌, ◌≡◌, ℤ, pos, length, take, eqb}
+use Rattle.std.specs.Prelude.{ℕ, ◌+◌, ◌*◌, ◌<◌, Bool, true, false, cond, List, [], ◌++◌, ◌≡◌, ℤ, pos, length, take, eqb, Result, Ok, Err}
 use Rattle.std.specs.Int.Signed.{lt_z}
 use Rattle.io.specs.Counts.{clamp_len}
 use Rattle.rules.specs.Verdict.{most_records}
-use Rattle.reading.specs.declared.Brought.{Brought}
+use Rattle.reading.specs.declared.CantRead.{CantRead}
 use Rattle.reading.specs.declared.Input.{Input}
 
 -- ---- a read
@@ -16,13 +16,13 @@ pub record Read : Type 0 where
 abbrev pub fails : ℤ → Bool
 fails got = lt_z got (pos 0)
 
--- how many bytes it brought: as many as it answers
-abbrev pub brought_by : Read → Brought
-brought_by r = record { size = clamp_len r.got (length r.buffer); failed = fails r.got }
+-- how many bytes it brought, where it did not fail: as many as it answers
+abbrev pub brought_by : Read → Result ℕ CantRead
+brought_by r = cond (fails r.got) (Err (record {})) (Ok (clamp_len r.got (length r.buffer)))
 
--- these bytes: the buffer's first
+-- these bytes: the buffer's first, none where it failed
 abbrev pub brought : Read → List ℕ
-brought r = take (brought_by r).size r.buffer
+brought r = take (clamp_len r.got (length r.buffer)) r.buffer
 
 -- ---- what is fed
 -- what a program feeds, whatever its states are: what a piece makes of one, and whether more of the input counts after it
@@ -49,7 +49,7 @@ unfoldable pub taken_in : {S : Type 0} → Feeder S → Standing S → Bool → 
 taken_in p i failed bytes = cond (eqb (length bytes) 0) (ended_by i failed) (fed_by p i bytes)
 
 unfoldable pub after_read : {S : Type 0} → Feeder S → Standing S → Read → Standing S
-after_read p i r = taken_in p i (brought_by r).failed (brought r)
+after_read p i r = taken_in p i (fails r.got) (brought r)
 
 -- ---- all the reads
 -- the program has made some reads, one after another and none after the last one that it needs; `bytes` are all the bytes that they brought, in order

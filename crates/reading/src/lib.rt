@@ -3,6 +3,7 @@
 #![tactic(auto)]
 
 ghost use Rattle.std.specs.Prelude.{◌≡◌, ◌≤◌, Bool, true, List, length, min, take, ℕ, ℤ, Ok, Err};
+ghost use Rattle.std.specs.Io.{WritesAtMost};
 ghost use Rattle.std.specs.Io.KnownBytes.{Appends};
 ghost use Rattle.io.specs.Counts.{IsPrefixLen};
 ghost use Rattle.reading.specs.Reads.{brought_by, Feeder, taken_in, after_read, Piecewise, ReadOut};
@@ -25,13 +26,6 @@ pub const STDERR: i32 = 2;
 
 // Every read but the last brings a byte or more, and with the bytes of one record past 2^30 no more of an input counts: so many reads are enough.
 pub const TURNS: u64 = (Judge::MOST_RECORDS as u64 + 1) * 16;
-
-// What a read brought: so many bytes, which stand at the buffer's front, and whether it failed.
-#[derive(Clone, Copy)]
-pub struct Brought {
-    pub size: usize,
-    pub failed: bool,
-}
 
 // That standard input can't be read: what a program says in place of a text.
 #[derive(Clone, Copy, PartialEq, Eq)]
@@ -58,6 +52,7 @@ pub trait Machine {
 }
 
 // A program's input so far: the state, whether to read on, and whether the last read failed.
+// Stays: the definitions `taken_in` and `ReadOut` name both flags, and `definition_failed_read_prints` is an edit of one.
 #[derive(Clone, Copy)]
 pub struct Input<S> {
     pub state: S,
@@ -67,21 +62,21 @@ pub struct Input<S> {
 
 // What a read's answer and the buffer after it come to. That the bytes stand in the buffer follows, and is said so that `&buffer[..size]` asks for
 // nothing more.
-fn taken(got: isize, buffer: &[u8]) -> Brought
+fn taken(got: isize, buffer: &[u8]) -> Result<usize, CantRead>
     ensures value { result ≡ brought_by (record { got = got; buffer = buffer.now }) }
-    ensures prefix_len { IsPrefixLen result.size buffer.now }
+    ensures bound { WritesAtMost result buffer.now }
 {
-    let size = io::count(got, buffer);
-    Brought {
-        size,
-        failed: got < 0,
+    let failed = got < 0;
+    if failed {
+        return Err(CantRead);
     }
+    Ok(io::count(got, buffer))
 }
 
-// Reads once from standard input. A call that a signal interrupts is one that failed.
-pub fn read_once(mut input: Stdin, buffer: &mut [u8]) -> Brought
+// Reads once from standard input: so many bytes come, which stand at the buffer's front. A call that a signal interrupts is one that failed.
+pub fn read_once(mut input: Stdin, buffer: &mut [u8]) -> Result<usize, CantRead>
     ensures value { (got : ℤ) × (result ≡ brought_by (record { got = got; buffer = buffer.new })) }
-    ensures prefix_len { IsPrefixLen result.size buffer.new }
+    ensures bound { WritesAtMost result buffer.new }
 {
     let got = match input.read(buffer) {
         Ok(n) => n as isize,
@@ -114,7 +109,7 @@ fn read_more<M: Machine>(stdin: Stdin, buffer: &mut [u8], input: Input<M::State>
     ensures { (got : ℤ) × (result ≡ after_read M.feeder input (record { got = got; buffer = buffer.new })) }
 {
     let got = read_once(stdin, buffer);
-    take_in::<M>(&buffer[..got.size], got.failed, input)
+    take_in::<M>(&buffer[..got.unwrap_or(0)], got.is_err(), input)
 }
 
 // Reads until it need read no more.
@@ -229,7 +224,7 @@ pub fn word_given(rt: &impl Env, i: usize, word: &mut [u8]) -> usize
 pub fn narrowed(number: u64) -> u8
     ensures { result ≡ min number 255 }
 {
-    if number < 255 { number as u8 } else { 255 }
+    number.min(255) as u8
 }
 
 // The hold limit of a program that takes nothing else: 16, or what its one argument says.

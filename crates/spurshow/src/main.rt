@@ -264,7 +264,7 @@ fn checked(
     short: bool,
     buffer: &mut [u8],
 ) -> Result<(), Amiss> {
-    if short && reading::read_once(stdin, buffer).failed {
+    if short && reading::read_once(stdin, buffer).is_err() {
         return Err(Amiss::CantRead);
     }
     end
