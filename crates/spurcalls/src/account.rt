@@ -64,14 +64,10 @@ fn share_lent(slot: u8, tally: Tally, entries: [Entry; 17], n: usize) -> Result<
 // Call 24. Nothing is altered.
 pub(crate) fn put_share(call: &[u8; 64], out: &mut [u8; 64], bench: Bench) -> Bench {
     let n = numbers::size(call[2].min(17));
-    match share_lent(call[1], bench.tally, bench.account, n) {
-        Ok(entry) => {
-            numbers::put_word(out, 1, entry.starts);
-            numbers::put_long(out, 5, entry.busy);
-        }
-        Err(refusal) => {
-            out[0] = refusal.number();
-        }
+    let share = share_lent(call[1], bench.tally, bench.account, n);
+    if let Some(entry) = numbers::accepted(out, share) {
+        numbers::put(out, 1, entry.starts.to_be_bytes());
+        numbers::put(out, 5, entry.busy.to_be_bytes());
     }
     bench
 }

@@ -1,135 +1,119 @@
 // Calls 11 to 18: the cache tables for 64 blocks and one more, and the lengths under which they are lent.
+ghost use Rattle.std.specs.Prelude.{◌<◌};
+
 use crate::numbers;
-use basics::Refusal;
 
 #[derive(Clone, Copy)]
-pub(crate) struct Sizes {
-    pub(crate) memory: usize,
-    pub(crate) states: usize,
-    pub(crate) copies: usize,
+struct Sizes {
+    memory: usize,
+    states: usize,
+    copies: usize,
+}
+
+// The tables whole, and how many entries of each are lent to the library.
+#[derive(Clone, Copy)]
+pub(crate) struct Tables {
+    states: [u8; 1040],
+    copies: [u32; 1040],
+    memory: [u32; 65],
+    lent: Sizes,
+}
+
+// Tables of zeros, lent for 64 blocks.
+pub(crate) fn first_tables() -> Tables {
+    Tables {
+        states: [0; 1040],
+        copies: [0; 1040],
+        memory: [0; 65],
+        lent: Sizes {
+            memory: 64,
+            states: 1024,
+            copies: 1024,
+        },
+    }
 }
 
 // Call 11.
-pub(crate) fn set_sizes(call: &[u8; 64]) -> Sizes {
-    Sizes {
-        memory: numbers::size(call[1].min(65)),
-        states: numbers::half_at(call, 2).min(1040) as usize,
-        copies: numbers::half_at(call, 4).min(1040) as usize,
-    }
+pub(crate) fn set_sizes(call: &[u8; 64], tables: &mut Tables) {
+    tables.lent = Sizes {
+        memory: numbers::size(call[1]),
+        states: numbers::half_at(call, 2) as usize,
+        copies: numbers::half_at(call, 4) as usize,
+    };
 }
 
-// An entry of a table, where it has one.
-fn put<T: Copy>(table: &mut [T], at: usize, value: T) {
-    if let Some(entry) = table.get_mut(at) {
-        *entry = value;
-    }
+// The block that a byte names, and the place of a slot's entries in it, taken modulo how many there are.
+fn block_of(byte: u8) -> usize
+    ensures { result < 64 }
+{
+    numbers::size(byte % 64)
 }
 
-fn entry<T: Copy + Default>(table: &[T], at: usize) -> T {
-    table.get(at).copied().unwrap_or_default()
-}
-
-// The place of a slot's entries in a block, both taken modulo how many there are.
-fn place(block: u8, slot: u8) -> usize {
-    numbers::size(block % 64) * 16 + numbers::size(slot % 16)
+fn place(block: u8, slot: u8) -> usize
+    ensures { result < 1024 }
+{
+    block_of(block) * 16 + numbers::size(slot % 16)
 }
 
 // Call 12.
-pub(crate) fn set_memory(call: &[u8; 64], memory: &mut [u32]) {
-    put(
-        memory,
-        numbers::size(call[1] % 64),
-        numbers::word_at(call, 2),
-    );
+pub(crate) fn set_memory(call: &[u8; 64], tables: &mut Tables) {
+    tables.memory[block_of(call[1])] = numbers::word_at(call, 2);
 }
 
 // Call 13.
-pub(crate) fn set_copy(call: &[u8; 64], states: &mut [u8], copies: &mut [u32]) {
+pub(crate) fn set_copy(call: &[u8; 64], tables: &mut Tables) {
     let at = place(call[2], call[1]);
-    put(states, at, call[3]);
-    put(copies, at, numbers::word_at(call, 4));
+    tables.states[at] = call[3];
+    tables.copies[at] = numbers::word_at(call, 4);
 }
 
-fn put_reading(out: &mut [u8; 64], reading: Result<u32, Refusal>) {
-    match reading {
-        Ok(value) => numbers::put_word(out, 1, value),
-        Err(refusal) => {
-            out[0] = refusal.number();
-        }
-    }
-}
-
-fn put_change(out: &mut [u8; 64], change: Result<(), Refusal>) {
-    if let Err(refusal) = change {
-        out[0] = refusal.number();
-    }
-}
-
-// Calls 14 to 16, on the tables as they are lent.
-// Stays: three slices beside each other, since the library's calls take them so (`cache::read`, the caller's bytes).
-fn on_tables(
-    op: u8,
-    call: &[u8; 64],
-    out: &mut [u8; 64],
-    states: &mut [u8],
-    copies: &mut [u32],
-    memory: &mut [u32],
-) {
+// Calls 14 to 16, on the first parts of the tables, which are lent. They are a copy's, since of a struct behind a reference one field is lent at a time.
+// Stays: a match on the call's number (CALLS.md lists them), since what the three take and answer differs.
+pub(crate) fn on_lent(call: &[u8; 64], out: &mut [u8; 64], tables: &mut Tables) {
     let slot = call[1];
     let block = numbers::size(call[2]);
-    match op {
-        14 => put_reading(out, cache::read(states, copies, memory, block, slot)),
+    let mut next = *tables;
+    let Sizes {
+        memory,
+        states,
+        copies,
+    } = next.lent;
+    let states = &mut next.states[..states.min(1040)];
+    let copies = &mut next.copies[..copies.min(1040)];
+    let memory = &mut next.memory[..memory.min(65)];
+    match call[0] {
+        14 => {
+            let read = cache::read(states, copies, memory, block, slot);
+            if let Some(value) = numbers::accepted(out, read) {
+                numbers::put(out, 1, value.to_be_bytes());
+            }
+        }
         15 => {
             let value = numbers::word_at(call, 3);
-            put_change(
-                out,
-                cache::write(states, copies, memory, block, slot, value),
-            );
+            let written = cache::write(states, copies, memory, block, slot, value);
+            numbers::accepted(out, written);
         }
-        _ => put_change(out, cache::evict(states, copies, memory, block, slot)),
+        _ => {
+            let evicted = cache::evict(states, copies, memory, block, slot);
+            numbers::accepted(out, evicted);
+        }
     }
-}
-
-// The same from the whole tables, of which the first parts are lent.
-pub(crate) fn on_lent(
-    op: u8,
-    call: &[u8; 64],
-    out: &mut [u8; 64],
-    sizes: Sizes,
-    states: &mut [u8],
-    copies: &mut [u32],
-    memory: &mut [u32],
-) {
-    let s = sizes.states.min(states.len());
-    let c = sizes.copies.min(copies.len());
-    let m = sizes.memory.min(memory.len());
-    on_tables(
-        op,
-        call,
-        out,
-        &mut states[..s],
-        &mut copies[..c],
-        &mut memory[..m],
-    );
+    *tables = next;
 }
 
 // Call 17.
-pub(crate) fn put_states(call: &[u8; 64], out: &mut [u8; 64], states: &[u8], memory: &[u32]) {
-    let block = call[1];
-    numbers::put_word(out, 1, entry(memory, numbers::size(block % 64)));
-    for slot in 0..16 {
-        out[numbers::size(slot) + 5] = entry(states, place(block, slot));
-    }
+pub(crate) fn put_states(call: &[u8; 64], out: &mut [u8; 64], tables: &Tables) {
+    let block = block_of(call[1]);
+    numbers::put(out, 1, tables.memory[block].to_be_bytes());
+    let first = block * 16;
+    out[5..21].copy_from_slice(&tables.states[first..first + 16]);
 }
 
 // Call 18.
-pub(crate) fn put_copies(call: &[u8; 64], out: &mut [u8; 64], copies: &[u32]) {
-    let block = call[1];
-    for slot in 0..16 {
-        numbers::put_word(
-            out,
-            numbers::size(slot) * 4,
-            entry(copies, place(block, slot)),
-        );
+pub(crate) fn put_copies(call: &[u8; 64], out: &mut [u8; 64], tables: &Tables) {
+    let first = block_of(call[1]) * 16;
+    let copies = &tables.copies[first..first + 16];
+    for (bytes, copy) in out.chunks_exact_mut(4).zip(copies) {
+        bytes.copy_from_slice(&copy.to_be_bytes());
     }
 }

@@ -8,11 +8,7 @@ use basics::Refusal;
 use codes::Status;
 use cycle::{Bus, Event, Moved, Node, Reply, Transfer};
 
-// An owner or a starter; 255 is none.
-fn owner_number(owner: Option<u8>) -> u8 {
-    owner.unwrap_or(255)
-}
-
+// An owner; 255 is none.
 fn owner_of(number: u8) -> Option<u8> {
     if number == 255 { None } else { Some(number) }
 }
@@ -47,31 +43,22 @@ fn put_transfer(out: &mut [u8; 64], transfer: Transfer) {
 
 // And of an answer.
 fn put_bus(out: &mut [u8; 64], bus: Bus) {
-    numbers::put_half(out, 16, bus.wave);
+    numbers::put(out, 16, bus.wave.to_be_bytes());
     out[18] = bus.settling;
     out[19] = bus.turn;
-    out[20] = owner_number(bus.owner);
+    out[20] = numbers::or_none(bus.owner);
     out[21] = bus.limit;
     put_transfer(out, bus.transfer);
 }
 
-// The bus before the first call: fresh, limit 16. The library makes it; a state of zeros, which it would refuse, stands where it didn't.
+// The bus before the first call: fresh, limit 16.
 pub(crate) fn first_bus() -> Bus {
-    match Bus::fresh(16) {
-        Ok(bus) => bus,
-        Err(_) => bus_in(&[0u8; 64]),
-    }
+    Bus::fresh(16).unwrap()
 }
 
 // Call 8. A refused one keeps the bus.
 pub(crate) fn fresh(call: &[u8; 64], out: &mut [u8; 64], bus: Bus) -> Bus {
-    let next = match Bus::fresh(call[1]) {
-        Ok(next) => next,
-        Err(refusal) => {
-            out[0] = refusal.number();
-            bus
-        }
-    };
+    let next = numbers::accepted(out, Bus::fresh(call[1])).unwrap_or(bus);
     put_bus(out, next);
     next
 }
@@ -97,8 +84,8 @@ fn node_of(byte: u8) -> Node {
 // The seventeen nodes at [5..22], of which the table is the first part.
 fn nodes_in(call: &[u8; 64]) -> [Node; 17] {
     let mut nodes = [node_of(0); 17];
-    for i in 0..17 {
-        nodes[i] = node_of(call[i + 5]);
+    for (node, &byte) in nodes.iter_mut().zip(&call[5..22]) {
+        *node = node_of(byte);
     }
     nodes
 }
@@ -117,34 +104,24 @@ fn step_over(
     bus::step(bus, reset, event, &nodes[..n])
 }
 
-fn ending_number(ending: Option<Status>) -> u8 {
-    match ending {
-        Some(status) => lines::status_number(status),
-        None => 255,
-    }
-}
-
 // A note's number is its place among the notes.
 fn put_reply(out: &mut [u8; 64], reply: Reply) {
     numbers::put_flag(out, 1, reply.rqst);
     numbers::put_flag(out, 2, reply.start);
     numbers::put_flag(out, 3, reply.ack);
-    out[4] = owner_number(reply.starter);
-    out[5] = ending_number(reply.status);
+    out[4] = numbers::or_none(reply.starter);
+    out[5] = numbers::or_none(reply.status.map(lines::status_number));
     out[6] = reply.note as u8;
 }
 
 // The state that the library answers is the bus from now on; a refused call keeps it.
 fn put_stepped(out: &mut [u8; 64], bus: Bus, stepped: Result<Moved, Refusal>) -> Bus {
-    match stepped {
-        Ok(moved) => {
+    match numbers::accepted(out, stepped) {
+        Some(moved) => {
             put_reply(out, moved.reply);
             moved.bus
         }
-        Err(refusal) => {
-            out[0] = refusal.number();
-            bus
-        }
+        None => bus,
     }
 }
 

@@ -27,7 +27,7 @@ fn record_in(call: &[u8; 64]) -> Record {
 
 // And of an answer.
 fn put_record(out: &mut [u8; 64], lines: Record) {
-    numbers::put_word(out, 4, lines.stamp);
+    numbers::put(out, 4, lines.stamp.to_be_bytes());
     numbers::put_flag(out, 8, lines.reset);
     numbers::put_flag(out, 9, lines.rqst);
     out[10] = lines.arb;
@@ -37,12 +37,12 @@ fn put_record(out: &mut [u8; 64], lines: Record) {
     numbers::put_flag(out, 14, lines.tm0);
     numbers::put_flag(out, 15, lines.sp);
     numbers::put_flag(out, 16, lines.spv);
-    numbers::put_word(out, 17, lines.ad);
+    numbers::put(out, 17, lines.ad.to_be_bytes());
     numbers::put_flag(out, 21, lines.vtm1);
     numbers::put_flag(out, 22, lines.vtm0);
     numbers::put_flag(out, 23, lines.vack);
     numbers::put_flag(out, 24, lines.vsack);
-    numbers::put_long(out, 25, lines.vad);
+    numbers::put(out, 25, lines.vad.to_be_bytes());
 }
 
 // Call 1. All forty bytes held A5 before: what isn't written still does.
@@ -50,20 +50,16 @@ pub(crate) fn pack(call: &[u8; 64], out: &mut [u8; 64]) {
     let mut bytes = [165u8; 40];
     let n = numbers::size(call[2].min(40));
     let packed = record::pack(&mut bytes[..n], numbers::size(call[1]), record_in(call));
-    if let Err(refusal) = packed {
-        out[0] = refusal.number();
-    }
+    numbers::accepted(out, packed);
     out[1..41].copy_from_slice(&bytes);
 }
 
 // Call 2.
 pub(crate) fn unpack(call: &[u8; 64], out: &mut [u8; 64]) {
     let n = numbers::size(call[2].min(40));
-    match record::unpack(&call[3..3 + n], numbers::size(call[1])) {
-        Ok(lines) => put_record(out, lines),
-        Err(refusal) => {
-            out[0] = refusal.number();
-        }
+    let unpacked = record::unpack(&call[3..3 + n], numbers::size(call[1]));
+    if let Some(lines) = numbers::accepted(out, unpacked) {
+        put_record(out, lines);
     }
 }
 
@@ -87,17 +83,12 @@ pub(crate) fn decode(call: &[u8; 64], out: &mut [u8; 64]) {
         tm0: numbers::flag(call[2]),
         ad: numbers::word_at(call, 3),
     };
-    match codes::decode(code) {
-        Ok(meaning) => {
-            let op = meaning.operation;
-            numbers::put_flag(out, 1, op.write);
-            out[2] = op.unit as u8;
-            numbers::put_word(out, 3, op.address);
-            out[7] = meaning.lanes;
-        }
-        Err(refusal) => {
-            out[0] = refusal.number();
-        }
+    if let Some(meaning) = numbers::accepted(out, codes::decode(code)) {
+        let op = meaning.operation;
+        numbers::put_flag(out, 1, op.write);
+        out[2] = op.unit as u8;
+        numbers::put(out, 3, op.address.to_be_bytes());
+        out[7] = meaning.lanes;
     }
 }
 
@@ -108,15 +99,10 @@ pub(crate) fn encode(call: &[u8; 64], out: &mut [u8; 64]) {
         unit: unit_of(call[2]),
         address: numbers::word_at(call, 3),
     };
-    match codes::encode(op) {
-        Ok(code) => {
-            numbers::put_flag(out, 1, code.tm1);
-            numbers::put_flag(out, 2, code.tm0);
-            numbers::put_word(out, 3, code.ad);
-        }
-        Err(refusal) => {
-            out[0] = refusal.number();
-        }
+    if let Some(code) = numbers::accepted(out, codes::encode(op)) {
+        numbers::put_flag(out, 1, code.tm1);
+        numbers::put_flag(out, 2, code.tm0);
+        numbers::put(out, 3, code.ad.to_be_bytes());
     }
 }
 

@@ -9,7 +9,7 @@ mod lines;
 mod numbers;
 mod recordings;
 
-use blocks::Sizes;
+use blocks::Tables;
 use cycle::Bus;
 use recordings::Bench;
 
@@ -18,10 +18,10 @@ use recordings::Bench;
 struct Desk {
     bus: Bus,
     bench: Bench,
-    sizes: Sizes,
 }
 
 // Calls that leave nothing behind.
+// Stays: matches on the call's number, here and below (CALLS.md lists them), since what the functions take and leave differs.
 fn on_lines(op: u8, call: &[u8; 64], out: &mut [u8; 64]) {
     match op {
         1 => lines::pack(call, out),
@@ -45,24 +45,15 @@ fn on_bus(op: u8, call: &[u8; 64], out: &mut [u8; 64], bus: Bus) -> Bus {
     }
 }
 
-fn on_blocks(
-    op: u8,
-    call: &[u8; 64],
-    out: &mut [u8; 64],
-    sizes: Sizes,
-    states: &mut [u8],
-    copies: &mut [u32],
-    memory: &mut [u32],
-) -> Sizes {
+fn on_blocks(op: u8, call: &[u8; 64], out: &mut [u8; 64], tables: &mut Tables) {
     match op {
-        11 => return blocks::set_sizes(call),
-        12 => blocks::set_memory(call, memory),
-        13 => blocks::set_copy(call, states, copies),
-        14..=16 => blocks::on_lent(op, call, out, sizes, states, copies, memory),
-        17 => blocks::put_states(call, out, states, memory),
-        _ => blocks::put_copies(call, out, copies),
+        11 => blocks::set_sizes(call, tables),
+        12 => blocks::set_memory(call, tables),
+        13 => blocks::set_copy(call, tables),
+        14..=16 => blocks::on_lent(call, out, tables),
+        17 => blocks::put_states(call, out, tables),
+        _ => blocks::put_copies(call, out, tables),
     }
-    sizes
 }
 
 fn on_bench(op: u8, call: &[u8; 64], out: &mut [u8; 64], bench: Bench) -> Bench {
@@ -78,46 +69,34 @@ fn on_bench(op: u8, call: &[u8; 64], out: &mut [u8; 64], bench: Bench) -> Bench 
 }
 
 // Answers one call. An operation that isn't listed is answered by 255.
-fn answer(
-    call: &[u8; 64],
-    out: &mut [u8; 64],
-    desk: Desk,
-    states: &mut [u8],
-    copies: &mut [u32],
-    memory: &mut [u32],
-) -> Desk {
+fn answer(call: &[u8; 64], out: &mut [u8; 64], desk: Desk, tables: &mut Tables) -> Desk {
     let op = call[0];
     let mut next = desk;
     match op {
         8..=10 => next.bus = on_bus(op, call, out, desk.bus),
-        11..=18 => next.sizes = on_blocks(op, call, out, desk.sizes, states, copies, memory),
+        11..=18 => on_blocks(op, call, out, tables),
         19..=25 => next.bench = on_bench(op, call, out, desk.bench),
         _ => on_lines(op, call, out),
     }
     next
 }
 
-// A fresh bus and a fresh judge at limit 16, no totals, nothing used, and the tables lent for 64 blocks.
+// A fresh bus and a fresh judge at limit 16, no totals, and nothing used.
 fn first_desk() -> Desk {
     Desk {
         bus: cycles::first_bus(),
         bench: recordings::first_bench(),
-        sizes: Sizes {
-            memory: 64,
-            states: 1024,
-            copies: 1024,
-        },
     }
 }
 
 // Reads one call and answers it: what lasts, or nothing where no more is to be answered. A torn last call is not answered.
-fn one_turn(desk: Desk, states: &mut [u8], copies: &mut [u32], memory: &mut [u32]) -> Option<Desk> {
+fn one_turn(desk: Desk, tables: &mut Tables) -> Option<Desk> {
     let mut call = [0u8; 64];
     let mut out = [0u8; 64];
     if io::read_full(0, &mut call) < 64 {
         return None;
     }
-    let next = answer(&call, &mut out, desk, states, copies, memory);
+    let next = answer(&call, &mut out, desk, tables);
     if io::write_all(1, &out) {
         Some(next)
     } else {
@@ -126,16 +105,11 @@ fn one_turn(desk: Desk, states: &mut [u8], copies: &mut [u32], memory: &mut [u32
 }
 
 fn main() {
-    let mut state_bytes = [0u8; 1040];
-    let mut copy_words = [0u32; 1040];
-    let mut memory_words = [0u32; 65];
-    let states: &mut [u8] = &mut state_bytes;
-    let copies: &mut [u32] = &mut copy_words;
-    let memory: &mut [u32] = &mut memory_words;
+    let mut tables = blocks::first_tables();
     let mut desk = first_desk();
     // A proved loop has to end, and nothing says that the input does: the turns fall from a number that no run uses up.
     for _ in 0..u64::MAX {
-        let Some(next) = one_turn(desk, states, copies, memory) else {
+        let Some(next) = one_turn(desk, &mut tables) else {
             break;
         };
         desk = next;

@@ -14,24 +14,6 @@ pub(crate) struct Bench {
     pub(crate) account: [Entry; 17],
 }
 
-// A judge of zeros, which the library would refuse.
-fn no_judge() -> Judge {
-    Judge {
-        limit: 0,
-        seen: false,
-        stamp: 0,
-        transfer: Transfer::Idle,
-        wave: Wave {
-            rqst: false,
-            prior: false,
-            owner: None,
-            since: 0,
-            arb: 0,
-            turn: 0,
-        },
-    }
-}
-
 // A judge that has judged nothing, with a tally and an account of zeros.
 fn with_judge(judge: Judge) -> Bench {
     Bench {
@@ -41,31 +23,25 @@ fn with_judge(judge: Judge) -> Bench {
     }
 }
 
-// Before the first call: a fresh judge, limit 16, that the library makes.
+// Before the first call: a fresh judge, limit 16.
 pub(crate) fn first_bench() -> Bench {
-    with_judge(match Judge::fresh(16) {
-        Ok(judge) => judge,
-        Err(_) => no_judge(),
-    })
+    with_judge(Judge::fresh(16).unwrap())
 }
 
 // Call 19. A refused one leaves judge, tally and account.
 pub(crate) fn fresh(call: &[u8; 64], out: &mut [u8; 64], bench: Bench) -> Bench {
-    match Judge::fresh(call[1]) {
-        Ok(judge) => with_judge(judge),
-        Err(refusal) => {
-            out[0] = refusal.number();
-            bench
-        }
+    match numbers::accepted(out, Judge::fresh(call[1])) {
+        Some(judge) => with_judge(judge),
+        None => bench,
     }
 }
 
 fn put_totals(out: &mut [u8; 64], tally: Tally, open: bool) {
-    numbers::put_word(out, 6, tally.records);
-    numbers::put_long(out, 10, tally.span);
-    numbers::put_word(out, 18, tally.starts);
-    numbers::put_word(out, 22, tally.acks);
-    numbers::put_word(out, 26, tally.aborted);
+    numbers::put(out, 6, tally.records.to_be_bytes());
+    numbers::put(out, 10, tally.span.to_be_bytes());
+    numbers::put(out, 18, tally.starts.to_be_bytes());
+    numbers::put(out, 22, tally.acks.to_be_bytes());
+    numbers::put(out, 26, tally.aborted.to_be_bytes());
     numbers::put_flag(out, 30, open);
 }
 
@@ -74,9 +50,9 @@ fn put_verdict(out: &mut [u8; 64], verdict: Verdict) {
         Verdict::Conforming => {}
         Verdict::Breach(broken) => {
             out[1] = broken.rule;
-            numbers::put_word(out, 2, broken.place);
+            numbers::put(out, 2, broken.place.to_be_bytes());
             out[31] = broken.kind;
-            numbers::put_long(out, 32, broken.span);
+            numbers::put(out, 32, broken.span.to_be_bytes());
         }
         Verdict::OutOfBounds => {
             out[0] = 5;
