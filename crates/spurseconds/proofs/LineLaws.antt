@@ -1,6 +1,6 @@
 -- Laws of the lines, and of what is put at the front of a page. Assumes nothing.
 use Prim.Native.Nat.{ℕ, ◌+◌, ◌-◌, ◌/◌, ◌^◌, ◌≤◌, ◌<◌}
-use mathlib.Core.Path.{◌≡◌, refl, sym, ap, subst, ◌∙◌}
+use mathlib.Core.Path.{◌≡◌, refl, sym, ap, ◌∙◌}
 use mathlib.Core.List.{List, [], ◌∷◌, ◌++◌}
 use native.Mathlib.Omega.{arith}
 use lib.ListN.{length, take, length-append}
@@ -8,11 +8,10 @@ use Rattle.std.specs.Prelude.{Option, Some, None, Ok, Err}
 use Rattle.text.specs.declared.Place.{Place}
 use Rattle.text.specs.Places.{front}
 use Rattle.text.proofs.DecimalLaws.{decimal_length}
-use Rattle.text.proofs.PlaceLaws.{put_front, moved_front}
 use Rattle.figures.specs.Figures.{figure_of}
 use Rattle.figures.specs.Times.{seconds_of}
 use Rattle.figures.proofs.DigitLaws.{digits-length}
-use Rattle.figures.proofs.TimeLaws.{Put, Page, put_as, page_begins, page_more, page_text, page_size}
+use Rattle.figures.proofs.TimeLaws.{Put, Page, page_begins, page_more, page_text, page_size}
 use Rattle.spurseconds.specs.declared.Untold.{Untold}
 use Rattle.spurseconds.specs.declared.Untold.TheVariants.{NoLine, CantWrite}
 use Rattle.spurseconds.specs.Lines.{time_line, line_of, seconds_line, Goes, Lined, none, later, Told, all, other, unwritten}

@@ -1,5 +1,4 @@
 -- `spurseconds::tell_all` meets its contract: after each turn the words so far are printed. Assumes nothing.
-use Prim.Native.Nat.{◌-◌}
 use mathlib.Core.Path.{◌≡◌}
 use lib.ListN.{length}
 use Rattle.spurseconds.proofs.LineLaws.{Telling}
