@@ -47,15 +47,15 @@ fn is_owner(state: u8) -> bool
 }
 
 // The slot that owns the block whose entries start at base, 16 where none does.
-// Stays: 16 and no Option, since the slot of an Option would need its bound beside it in each contract that takes an owner. And `base` with its bound
-// beside whole tables: the calls' contracts speak of whole tables (`after_read`), and sixteen entries lent would have to be put back into them in each proof.
+// Stays: 16 and no Option, whose slot would need its bound in each contract. And `base + 16 ≤ length` in the clauses and (base, owner, word), (copy, state)
+// side by side, with loops over `base + slot`: the calls' contracts speak of whole tables (`after_read`), which a block lent apart would have to be put back into.
 fn owner_of(states: &[u8], base: usize) -> u8
     requires { base + 16 ≤ length states.now }
     ensures { result ≡ owner_below (entries states.now base) 16 }
 {
     let mut owner: u8 = 16;
-    for slot in 0..16 {
-        owner = pick(is_owner(states[base + slot as usize]), slot, owner);
+    for (slot, state) in states[base..base + 16].iter().enumerate() {
+        owner = pick(is_owner(*state), slot as u8, owner);
     }
     owner
 }

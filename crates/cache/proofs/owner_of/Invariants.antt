@@ -1,5 +1,5 @@
 -- `cache::owner_of` meets its contract. Assumes nothing.
-use Prim.Native.Nat.{◌-◌, ◌≤◌}
+use Prim.Native.Nat.{◌≤◌}
 use mathlib.Core.Path.{◌≡◌}
 use Rattle.cache.specs.Block.{owner_below}
 use Rattle.cache.specs.Tables.{entries}
@@ -7,6 +7,3 @@ use Rattle.cache.proofs.owner_of.Given as goal
 
 abbrev pub invariant-loop-slot : goal.invariant-loop-slot
 invariant-loop-slot l = (l.slot ≤ 16) × (l.owner ≡ owner_below (entries l.states l.base) l.slot)
-
-abbrev pub decreases-loop-slot : goal.decreases-loop-slot
-decreases-loop-slot l = 16 - l.slot
