@@ -47,8 +47,8 @@ fn is_owner(state: u8) -> bool
 }
 
 // The slot that owns the block whose entries start at base, 16 where none does.
-// Stays: 16 and no Option, whose slot would need its bound in each contract. And `base + 16 ≤ length` in the clauses and (base, owner, word), (copy, state)
-// side by side, with loops over `base + slot`: the calls' contracts speak of whole tables (`after_read`), which a block lent apart would have to be put back into.
+// Stays: 16 and no Option, whose slot would need its bound in each contract; `base + 16 ≤ length`, (base, owner, word) and (copy, state) side by side,
+// and loops over `base + slot`, since the calls' contracts speak of whole tables (`after_read`), into which a block lent apart would have to be put back.
 fn owner_of(states: &[u8], base: usize) -> u8
     requires { base + 16 ≤ length states.now }
     ensures { result ≡ owner_below (entries states.now base) 16 }

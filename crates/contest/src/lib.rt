@@ -24,6 +24,7 @@ fn keeps(id: u8, lines: u16, line: u8) -> bool
 }
 
 // 001's equations: a master that contests drives a line of its number while it lacks no higher line that is active.
+// Stays: `line < 4` in four clauses: document 01 has the recursion over the line number, and a type of lines would be the number with its bound.
 fn drives(line: u8, arb: bool, id: u8, lines: u16) -> bool
     requires { line < 4 }
     ensures { result ≡ drives line arb id lines }

@@ -10,6 +10,7 @@ use basics::Refusal;
 use codes::Status;
 
 // Words owed 1 to 16, age 0 to 255.
+// Stays: no Option, since document 01 names this form: a transfer that is idle, or open with its words owed.
 #[derive(Clone, Copy)]
 pub enum Transfer {
     Idle,
@@ -29,6 +30,7 @@ pub struct Bus {
 }
 
 // What the slave does in a cycle.
+// Stays: no Option, since document 01 has these three events, and nothing is one of them beside two others.
 #[derive(Clone, Copy)]
 pub enum Event {
     Nothing,

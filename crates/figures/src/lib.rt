@@ -69,6 +69,7 @@ fn spell(glyphs: &mut [u8], base: u64, first: usize, n: u64)
     ensures { drop first glyphs.new ≡ last_digits base (64 - first) n }
 {
     let mut rest = n;
+    // Stays: an index, tried as `glyphs[first..].iter_mut().rev()`: an invariant has no name there for the glyphs that stand written.
     for at in (first..64).rev() {
         glyphs[at] = glyph_of(rest % base);
         rest /= base;
@@ -107,6 +108,7 @@ pub fn add_seconds<const N: usize>(page: &mut Page<N>, cycles: u64)
 }
 
 // Puts it at the place, or nothing where it does not fit.
+// Stays: the three lines of each `put_`: lent as a closure, the middle one would need a contract over a page that no caller sees, to save two lines.
 pub fn put_seconds(buffer: &mut [u8], place: Place, cycles: u64) -> Place
     ensures { (result ≡ moved_by (length buffer.old) place (length (seconds_of cycles))) × (buffer.new ≡ put_at buffer.old place (seconds_of cycles)) }
 {

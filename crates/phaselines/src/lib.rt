@@ -88,6 +88,7 @@ fn add_report<const N: usize>(page: &mut Page<N>, report: Report)
 
 // Writes a report's lines to the front of a lent buffer, or nothing where they do not fit. The place that comes back says how many bytes they are, or
 // that there was no room.
+// Stays: three lines, as each `put_` of `printed` has them and for its reason.
 pub fn put_report(buffer: &mut [u8], report: Report) -> Place
     ensures { (result ≡ moved_by (length buffer.old) front (length (report_lines report))) × (buffer.new ≡ put_at buffer.old front (report_lines report)) }
 {

@@ -201,6 +201,7 @@ fn why_lacking(place: usize, verdict: Verdict) -> Why
 }
 
 // The difference of each of the first spans to the one before.
+// Stays: an index: `windows(2)` beside `diffs[1..].iter_mut()` is no plainer, and an invariant has no name there for what stands written.
 fn differences(spans: [u64; 32], found: usize) -> [u64; 32]
     requires { (found ≤ 32) × (rises_to spans found ≡ true) }
     ensures { result ≡ diffs_of spans found }

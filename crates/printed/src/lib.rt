@@ -89,6 +89,8 @@ pub fn add_ending<const N: usize>(page: &mut Page<N>, ending: Ending)
 
 // ---- in a lent buffer
 
+// Stays: the three lines of each `put_`: lent as a closure, the middle one would need a contract over a page that no caller sees, to save two lines.
+
 // Puts a breach's line at the place, or nothing where it does not fit.
 pub fn put_breach(buffer: &mut [u8], place: Place, broken: Broken) -> Place
     ensures { (result ≡ moved_by (length buffer.old) place (length (breach_line broken))) × (buffer.new ≡ put_at buffer.old place (breach_line broken)) }

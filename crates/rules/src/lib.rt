@@ -13,6 +13,7 @@ use basics::Refusal;
 
 // The transfer that is open before the next record, with its words, the strobes counted so far, its age in cycles since its START or its last strobe,
 // and the cycles that it has been busy, its START's with them.
+// Stays: no Option, since it has the form that document 01 names for the bus's transfer, idle or open with its numbers (`is_open`, `open_words`).
 #[derive(Clone, Copy, PartialEq, Eq)]
 pub enum Transfer {
     Idle,
@@ -53,6 +54,7 @@ pub struct Wave {
 pub struct Judge {
     pub limit: u8,
     // a record has been judged, and `stamp` is its stamp
+    // Stays: no Option, since a caller may hand in any stamp with `seen` false and, where a call is refused, is handed it back as it was.
     pub seen: bool,
     pub stamp: u32,
     pub transfer: Transfer,
@@ -100,6 +102,7 @@ pub struct Broken {
 }
 
 // What a call of the judge says. The last three are refusals 5, 8 and 1.
+// Stays: no Result, since a breach is an answer and no refusal, and 1 and 8 too come with the totals so far (document 01), which no `Err` would hold.
 #[derive(Clone, Copy, PartialEq, Eq)]
 pub enum Verdict {
     Conforming,
@@ -192,6 +195,7 @@ impl Rule {
 }
 
 impl Wave {
+    // Stays: no derived `Default`, since `since` 3 and ARB 15, which say that there was no START, are not zeros (`fresh_wave`).
     // No wave, and no START of one since the reset.
     pub fn fresh() -> Wave
         ensures { result ≡ fresh_wave }

@@ -30,6 +30,7 @@ pub struct Reason {
 // ---- the record that broke a rule
 
 // A byte of the torn record's bytes that a state holds and the piece behind them, 0 where there is none.
+// Stays: `held < 16` and (before, piece) in three clauses: they are `feed`'s own arguments, and a caller may make a `Stream` of any values, refused by 5.
 fn byte_at(before: Stream, piece: &[u8], at: usize) -> u8
     requires { before.held < 16 }
     ensures { result ≡ get_or (torn_of before ++ piece.now) at 0 }
