@@ -5,6 +5,7 @@
 ghost use Rattle.std.specs.Prelude.{◌≡◌, ◌≤◌, Bool, true, List, length, min, take, ℕ, ℤ, Ok, Err};
 ghost use Rattle.std.specs.Io.{WritesAtMost};
 ghost use Rattle.std.specs.Io.KnownBytes.{Appends};
+ghost use Rattle.basics.specs.Answers.{answered};
 ghost use Rattle.io.specs.Counts.{IsPrefixLen};
 ghost use Rattle.reading.specs.Reads.{brought_by, Feeder, taken_in, after_read, Piecewise, ReadOut};
 ghost use Rattle.reading.specs.Pages.{Telling, Making, Prints};
@@ -40,8 +41,9 @@ pub trait Machine {
 
     ghost says: { Self.State → List ℕ };
 
-    fn feed(state: Self::State, piece: &[u8]) -> Self::State
-        ensures { result ≡ feeder.fed state piece.now };
+    // A piece that is refused leaves the state as it was.
+    fn feed(state: Self::State, piece: &[u8]) -> Result<Self::State, Refusal>
+        ensures { (answered state result).value ≡ feeder.fed state piece.now };
 
     fn wants_more(state: &Self::State) -> bool
         ensures { result ≡ feeder.going state.now };
@@ -96,7 +98,7 @@ fn take_in<M: Machine>(bytes: &[u8], failed: bool, input: Input<M::State>) -> In
             ..input
         };
     }
-    let state = M::feed(input.state, bytes);
+    let state = M::feed(input.state, bytes).unwrap_or(input.state);
     Input {
         state,
         more: M::wants_more(&state),

@@ -8,6 +8,7 @@ ghost use Rattle.usage.specs.Pieces.{closing_of};
 ghost use Rattle.accountlines.specs.Lines.{closing_lines};
 ghost use Rattle.spuraccounts.specs.Pages.{accounting, Prints};
 
+use basics::Refusal;
 use reading::{CantRead, Machine};
 use std::io::Stdin;
 use text::Place;
@@ -25,8 +26,8 @@ impl Machine for Accounting {
 
     ghost says = { λ l. closing_lines (closing_of l) };
 
-    fn feed(ledger: Ledger, piece: &[u8]) -> Ledger {
-        accounts::feed(ledger, piece).unwrap_or(ledger)
+    fn feed(ledger: Ledger, piece: &[u8]) -> Result<Ledger, Refusal> {
+        accounts::feed(ledger, piece)
     }
 
     fn wants_more(ledger: &Ledger) -> bool {

@@ -8,6 +8,7 @@ ghost use Rattle.feeding.specs.State.{finish_of};
 ghost use Rattle.printed.specs.Lines.{lines_of};
 ghost use Rattle.spurjudge.specs.Pages.{judging, Prints};
 
+use basics::Refusal;
 use feeding::Stream;
 use reading::{CantRead, Machine};
 use std::io::Stdin;
@@ -25,8 +26,8 @@ impl Machine for Judging {
 
     ghost says = { λ s. lines_of (finish_of s) };
 
-    fn feed(stream: Stream, piece: &[u8]) -> Stream {
-        stream::feed(stream, piece).unwrap_or(stream)
+    fn feed(stream: Stream, piece: &[u8]) -> Result<Stream, Refusal> {
+        stream::feed(stream, piece)
     }
 
     fn wants_more(stream: &Stream) -> bool {

@@ -9,6 +9,7 @@ ghost use Rattle.phaselines.specs.Lines.{report_lines};
 ghost use Rattle.spurphases.specs.Words.{slash_in, mark_of, mark_in, with_mark, count_of, named_as, Given};
 ghost use Rattle.spurphases.specs.Pages.{searching, Prints};
 
+use basics::Refusal;
 use marks::{Mark, Marks, Phases};
 use reading::{CantRead, Machine};
 use std::env::Env;
@@ -104,8 +105,8 @@ impl Machine for Searching {
 
     ghost says = { λ p. report_lines (report_of p) };
 
-    fn feed(phases: Phases, piece: &[u8]) -> Phases {
-        phases::feed(phases, piece).unwrap_or(phases)
+    fn feed(phases: Phases, piece: &[u8]) -> Result<Phases, Refusal> {
+        phases::feed(phases, piece)
     }
 
     fn wants_more(phases: &Phases) -> bool {

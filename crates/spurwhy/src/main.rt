@@ -8,6 +8,7 @@ ghost use Rattle.witness.specs.State.{reason_in};
 ghost use Rattle.whylines.specs.Lines.{reason_lines};
 ghost use Rattle.spurwhy.specs.Pages.{explaining, Prints};
 
+use basics::Refusal;
 use reading::{CantRead, Machine};
 use std::io::Stdin;
 use text::Place;
@@ -25,8 +26,8 @@ impl Machine for Explaining {
 
     ghost says = { λ w. reason_lines (reason_in w) };
 
-    fn feed(witness: Witness, piece: &[u8]) -> Witness {
-        witness::feed(witness, piece).unwrap_or(witness)
+    fn feed(witness: Witness, piece: &[u8]) -> Result<Witness, Refusal> {
+        witness::feed(witness, piece)
     }
 
     fn wants_more(witness: &Witness) -> bool {
