@@ -107,18 +107,18 @@ fn mode_at(row: usize) -> Mode
 }
 
 // The row of a START's lines: each active line is nearer to the top.
-fn row_of(tm1: bool, tm0: bool, ad: u32) -> usize
-    ensures { (result ≡ row_of tm1 tm0 ad) × (result < 16) }
+fn row_of(code: Code) -> usize
+    ensures { (result ≡ row_of code.tm1 code.tm0 code.ad) × (result < 16) }
 {
-    let high = 8 * basics::one_if(tm1) + 4 * basics::one_if(tm0);
-    15 - (high as usize) - (ad % 4) as usize
+    let high = 8 * basics::one_if(code.tm1) + 4 * basics::one_if(code.tm0);
+    15 - (high as usize) - (code.ad % 4) as usize
 }
 
 // What the table says of the lines of a START.
-fn mode_of(tm1: bool, tm0: bool, ad: u32) -> Mode
-    ensures { result ≡ mode_of tm1 tm0 (active 1 ad) (active 0 ad) }
+fn mode_of(code: Code) -> Mode
+    ensures { result ≡ mode_of code.tm1 code.tm0 (active 1 code.ad) (active 0 code.ad) }
 {
-    mode_at(row_of(tm1, tm0, ad))
+    mode_at(row_of(code))
 }
 
 // Table 2.3 on the low code bits, turned round so that AD2, which is looked at first, counts most: each length is then one range. A block with AD2
@@ -198,7 +198,7 @@ pub fn decode(code: Code) -> Result<Meaning, Refusal>
     ensures { decoded_answer result ≡ decode_of code.tm1 code.tm0 code.ad }
 {
     let ad = code.ad;
-    let Mode(write, kind, offset) = mode_of(code.tm1, code.tm0, ad);
+    let Mode(write, kind, offset) = mode_of(code);
     let address = ad - ad % 4 + offset as u32;
     match kind {
         Kind::Byte => Ok(means(write, Unit::Byte, address, 0b1 << offset)),
@@ -238,6 +238,7 @@ pub fn encode(op: Operation) -> Result<Code, Refusal>
     })
 }
 
+// Stays: TM1 and TM0 as two values, and no `StatusLines`, in `status_of`: a public signature, whose definition takes them so.
 // How an ACK with these lines ends its transfer, and the lines of an ending (001, table 2.4).
 pub fn status_of(tm1: bool, tm0: bool) -> Status
     ensures { result ≡ status_of tm1 tm0 }

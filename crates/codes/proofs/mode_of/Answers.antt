@@ -5,4 +5,4 @@ use Rattle.codes.proofs.mode_of.Goals as goal
 
 pub returns : goal.returns
 returns c = let a = c.args in
-    c.mode_at.ensures ∙ ap mode_at c.row_of.ensures.0 ∙ row_mode a.tm1 a.tm0 a.ad
+    c.mode_at.ensures ∙ ap mode_at c.row_of.ensures.0 ∙ row_mode a.code.tm1 a.code.tm0 a.code.ad
