@@ -19,6 +19,8 @@ pub use pieces::{feed, finish, fresh};
 use rules::{Judge, Judged, Tally};
 use usage::Accounted;
 
+// Stays: judge, tally, entries and how many were lent go as values of their own, since `accounted_for`, `share_for` and `refusal_for` take them so, as
+// document 02's calls do, and `share` has no judge.
 // ---- bounds
 
 // At most the tally's STARTs, and at most as many busy cycles as its span and the entry's STARTs together, which may not fit as a sum.

@@ -24,6 +24,7 @@ fn none_used() -> [Entry; 16]
     [Entry::zero(); 16]
 }
 
+// Stays: a ledger and a piece go as two values, here and below, since `post_of` and `posted_of` take them so: the piece is the caller's bytes, and is not kept.
 // Charges the first n records of a torn record's first `held` bytes and the piece behind them: the torn one, which the piece completes, and then those
 // of the piece as they lie.
 fn charge_across(ledger: Ledger, piece: &[u8], n: usize) -> [Entry; 16]

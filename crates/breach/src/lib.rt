@@ -43,6 +43,8 @@ fn asked_twice(wave: Wave, d: u32) -> bool
 
 // ---- the thirteen rules, each by its number in document 01
 
+// Stays: START, ACK, RQST before and the stamp's difference go as values of their own, since each rule takes what its definition in rules/specs/Rules
+// takes (`rule3` to `rule13`), as document 01 words it; a struct of them would say less of what a rule hangs on.
 fn spare_zero(spare: u16) -> bool
     ensures { result ≡ rule1 spare }
 {

@@ -19,6 +19,7 @@ use bounds::{are_words, is_bounded};
 use cycle::{Arbitration, Bus, Event, Moved, Node, Progress, Reply, Sets, Transfer};
 use transfers::carry;
 
+// Stays: bus, event, sets and reset go as values of their own, as the public `step_sets` takes them and `cycle_of` and `step_sets_of` have them.
 // The state after the cycle and its reply, from what arbitration and the transfer come to. START is active exactly if somebody starts.
 #[tactic(auto, unfolding(cycle::specs::Cycle::moved_by, cycle::specs::Cycle::state_by, cycle::specs::Cycle::reply_by))]
 fn join(b: Bus, a: Arbitration, p: Progress) -> Moved

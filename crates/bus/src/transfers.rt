@@ -7,6 +7,7 @@ use crate::arbitration::makes_attention;
 use codes::Status;
 use cycle::{Bus, Event, Note, Progress, Sets, Transfer};
 
+// Stays: the starter beside the sets, since `opened`, `attention` and `progress_of` (cycle/specs/Transfers) take them so.
 // What a START opens: nothing in an attention cycle, else a transfer at age 0.
 #[tactic(auto, unfolding(cycle::specs::Transfers::opened))]
 fn open_by(starter: Option<u8>, sets: Sets) -> Transfer

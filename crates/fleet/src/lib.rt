@@ -16,6 +16,7 @@ pub struct Summary {
     pub remainder: u64,
 }
 
+// Stays: two functions of one line each, as a switch between `min` and `max` would be no plainer.
 fn least(figures: &[u64]) -> u64
     ensures { result ≡ least_of figures.now }
 {

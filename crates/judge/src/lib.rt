@@ -48,7 +48,8 @@ fn broken_at(judge: Judge, tally: Tally, rule: Rule, d: u32) -> Progress
 }
 
 // Judges a record rule by rule.
-// Stays: a state and a tally go as two values, as the public `judge_all` takes them and `outcome_of` and `step_of` have them.
+// Stays: a state and a tally go as two values, here and in `after` and `quick`, as the public `judge_all` takes them and `outcome_of` and `step_of` have
+// them; and `SoundJudge`, `SoundTally` and the room for a record are said in each clause, since a caller's values may be any, and `refusal` answers 5 and 8.
 fn judge_lines(judge: Judge, tally: Tally, lines: Record, spare: u16) -> Progress
     requires { SoundJudge judge × (SoundTally tally × (tally.records < 2 ^ 30)) }
     ensures { result ≡ step_of judge tally (record { lines = lines; spare = spare }) }
@@ -107,6 +108,7 @@ fn judge_records(bytes: &[u8], judge: Judge, tally: Tally) -> Progress
 // ---- a call
 
 // Whether a call with so many bytes is refused, in document 01's order: 5, 8, 1.
+// Stays: the bytes' size beside judge and tally, since document 01's refusals (`refusal_of`) go by these three.
 #[tactic(auto, unfolding(rules::specs::Verdict::refusal_of))]
 fn refusal(size: usize, judge: Judge, tally: Tally) -> Result<(), Refusal>
     ensures { call_number result ≡ refusal_of size judge tally }

@@ -18,6 +18,7 @@ pub(crate) struct Reached {
     pub(crate) tally: Tally,
 }
 
+// Stays: a wave and the record's RQST go as two values, here and below, since `waited_of`, `started_of` and `request_holds` (specs/Quick) take them so.
 fn waited(wave: Wave, rqst: bool) -> Wave
     requires { WaveKept wave }
     ensures { result ≡ waited_of wave rqst }

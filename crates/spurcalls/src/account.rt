@@ -24,6 +24,7 @@ struct Answered {
 }
 
 // A recording's next bytes, judged with the tally and the first n entries lent to the library.
+// Stays: `n ≤ 17` here, in `share_lent` and in `cycles::step_over`: how many are lent is a call's byte, and what is lent are slots' entries or nodes.
 fn judge_lent(bytes: &[u8], state: Judge, totals: Tally, entries: [Entry; 17], n: usize) -> Answered
     requires { n ≤ 17 }
     ensures { (result.judged ≡ judges_answer (accounted_of bytes.now state totals (take n entries))) × ((result.tally ≡ (accounted_of bytes.now state totals (take n entries)).tally) × (result.account ≡ (accounted_of bytes.now state totals (take n entries)).entries ++ drop n entries)) }

@@ -21,7 +21,8 @@ struct Desk {
 }
 
 // Calls that leave nothing behind.
-// Stays: matches on the call's number, here and below (CALLS.md lists them), since what the functions take and leave differs.
+// Stays: matches on the call's number, here and below, with the call and its answer beside it: CALLS.md lists them, and as what the functions take and
+// leave differs, a table of them would be no plainer.
 fn on_lines(op: u8, call: &[u8; 64], out: &mut [u8; 64]) {
     match op {
         1 => lines::pack(call, out),

@@ -43,6 +43,8 @@ fn put_head(text: &mut [u8], place: Place, first: bool) -> Place
     place
 }
 
+// Stays: what is asked and the walk go as two values, and `walk_bounds` and `goes` in three clauses, since `text_of`, `shown` and `walked_over`
+// (specs/Shown) take them so, and a walk is the caller's own of crate `walk`, whose `step` refuses one out of bounds by 5.
 // A walk that goes on is in its bounds and has room for a record: its step isn't refused.
 fn step_on(asked: Asked, walk: Walk, lines: Record) -> Walked
     requires { (walk_bounds walk ≡ true) × (goes asked walk ≡ true) }

@@ -41,6 +41,8 @@ pub fn filled(array: [u8; 16], at: usize, part: &[u8]) -> [u8; 16]
     next
 }
 
+// Stays: a stream (or its judge and tally) and a piece go as two values below, since `gone_on`, `feed_of` and `fed_of` take them so: the piece is the
+// caller's bytes, and is not kept.
 // ---- going on
 
 // What ends the judging, where the records judged have this verdict and `past` says whether a whole record past 2^30 was given.
