@@ -5,7 +5,7 @@ ghost use Rattle.std.specs.Prelude.{◌≡◌};
 ghost use Rattle.entries.specs.Entries.{zero_entry, sixteen_of, spread_of};
 
 // What one slot has used: its STARTs and its busy cycles.
-#[derive(Clone, Copy, PartialEq, Eq)]
+#[derive(Clone, Copy, Default, PartialEq, Eq)]
 pub struct Entry {
     pub starts: u32,
     pub busy: u64,
@@ -13,11 +13,10 @@ pub struct Entry {
 
 impl Entry {
     // Nothing used.
-    // Stays: a derived Default would say it field by field, and every caller's proof takes the one equation (`zero_has_a_cycle` is a build of it).
     pub fn zero() -> Entry
         ensures { result ≡ zero_entry }
     {
-        Entry { starts: 0, busy: 0 }
+        Entry::default()
     }
 }
 

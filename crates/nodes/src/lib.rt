@@ -39,7 +39,7 @@ pub fn gather(nodes: &[Node]) -> Sets
     ensures { result ≡ sets_of nodes.now }
 {
     let mut sets = Sets::default();
-    // Stays: over the slots and not the table's items, since `sets_of` is of sixteen slots and a table may lack some.
+    // Stays: over the slots, as `gathered` (cycle/specs/Nodes) goes, which has a blank node where the table lacks one; over the items it is a line less and a law more.
     for slot in 0..16 {
         let node = nodes.get(slot).copied().unwrap_or_default();
         sets = add_node(sets, slot, node);

@@ -174,7 +174,7 @@ pub fn fresh(limit: u8, marks: Marks) -> Result<Phases, Refusal>
     })
 }
 
-// Goes on with the input's next piece, of any length, or refuses a state out of bounds by 5 and hands it back.
+// Goes on with the input's next piece, of any length, or refuses a state out of bounds by 5: the caller has it as it was.
 #[tactic(auto, unfolding(marks::specs::State::phased_of))]
 pub fn feed(phases: Phases, piece: &[u8]) -> Result<Phases, Refusal>
     ensures { answered phases result ≡ phased_of phases piece.now }

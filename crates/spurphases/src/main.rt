@@ -80,7 +80,7 @@ fn marks_given(rt: &impl Env, words: usize) -> Option<Marks>
     ensures { Given words result }
 {
     let mut word = io::buffer();
-    // Stays: the zeros are written, since what `Marks::default()` promises of its array (`AllOfLen`) didn't prove that it is `no_marks`.
+    // Stays: `Marks::default()` was tried, and that it is `no_marks` didn't close: of its array the clause says that each mark is a default (`AllOfLen`).
     let unnamed = Mark { slot: 0, number: 0 };
     let mut named = Some(Marks {
         marks: [unnamed; 32],

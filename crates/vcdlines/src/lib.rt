@@ -129,12 +129,11 @@ fn put_step<const N: usize>(
     put_changes(page, first, &before, &after);
 }
 
-// No line is active: so reads a record of which there is no byte.
-// Stays: the clause of `Record::default` says each field, and that these are `blank` is a law that record has for itself alone.
+// No line is active.
 fn inactive() -> Record
     ensures { result ≡ blank }
 {
-    record::lines_in(b"")
+    Record::default()
 }
 
 // The two steps of a record before which cycles are missing: to all lines inactive, and from there.

@@ -69,7 +69,7 @@ fn gap_before(walk: Walk, stamp: u32) -> u32
     }
 }
 
-// Goes on by one record. A walk out of bounds is refused by 5, a record past 2^30 by 8; both hand the walk back.
+// Goes on by one record. A walk out of bounds is refused by 5, a record past 2^30 by 8: the caller has the walk as it was.
 pub fn step(walk: Walk, lines: Record) -> Result<Walked, Refusal>
     ensures { answered (stayed walk) result ≡ step_of walk lines }
 {
