@@ -17,6 +17,7 @@ fn bytes_at<const N: usize>(call: &[u8; 64], at: usize) -> [u8; N]
     bytes
 }
 
+// Stays: a line for each width, since `from_be_bytes` is each number type's own.
 pub(crate) fn half_at(call: &[u8; 64], at: usize) -> u16
     requires { at ≤ 62 }
 {

@@ -40,6 +40,7 @@ impl Machine for Judging {
 }
 
 // Judges what the reads bring, and makes the text of it.
+// Stays: here and below stands what differs from the other programs that judge, whose `fresh` begins, how long the page is and what is complained of; the rest is `reading`'s.
 fn judge_input(
     stdin: Stdin,
     limit: u64,
