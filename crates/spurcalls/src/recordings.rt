@@ -3,6 +3,7 @@ ghost use Rattle.std.specs.Prelude.{◌≡◌};
 ghost use Rattle.rules.specs.Verdict.{outcome_of, judged_of};
 
 use crate::{account, numbers};
+use basics::Refusal;
 use entries::Entry;
 use rules::{Judge, Judged, Tally, Transfer, Verdict, Wave};
 
@@ -55,13 +56,13 @@ fn put_verdict(out: &mut [u8; 64], verdict: Verdict) {
             numbers::put(out, 32, broken.span.to_be_bytes());
         }
         Verdict::OutOfBounds => {
-            out[0] = 5;
+            out[0] = Refusal::Bounds.number();
         }
         Verdict::TooMany => {
-            out[0] = 8;
+            out[0] = Refusal::TooMany.number();
         }
         Verdict::Torn => {
-            out[0] = 1;
+            out[0] = Refusal::Length.number();
         }
     }
 }
