@@ -13,7 +13,7 @@ use Rattle.std.specs.Prelude.{Option, Some, None}
 use Rattle.text.specs.Numbers.{number_of, is_number}
 use Rattle.marks.specs.declared.Marks.{Marks}
 use Rattle.marks.specs.declared.Mark.{Mark}
-use Rattle.spurphases.specs.Words.{slash_in, mark_of, mark_in, with_mark, count_of, named_as, named_from, named_by, Given}
+use Rattle.spurphases.specs.Words.{slash_in, mark_of, mark_in, with_mark, count_of, named_as, named_from, named_by}
 
 -- ---- the slash
 module _ (word : List ℕ) (at : ℕ) where
@@ -99,6 +99,3 @@ naming_on count next n after word h lt e =
       named = e ∙ ap (λ (x : Option Marks). named_as x (mark_in word)) h.named ∙ sym (from_last _ h.words word);
       few = let f = h.few in let g = ap count_of e in let k = named_more n (mark_in word) in omega arith;
     }
-
-pub naming_end : (count next : ℕ) (n : Option Marks) → Naming count next n → count ≤ next → Given count n
-naming_end count next n h le = record { words = h.words; size = let s = h.size in let w = h.within in omega arith; named = h.named }
