@@ -1,14 +1,14 @@
 -- The cases of `cycle`'s definitions, as the code's branches ask for them. Assumes nothing.
 use Rattle.std.specs.Prelude.{Some, None}
-use Prim.Native.Nat.{ℕ, ◌<◌}
+use Prim.Native.Nat.{ℕ, ◌<◌, ◌≤◌}
 use mathlib.Core.Path.{◌≡◌, sym, ap, ◌∙◌}
 use mathlib.Core.Bool.{Bool, true, false, cond, ◌&&◌}
 use mathlib.Core.List.{List}
 use native.Mathlib.Omega.{arith}
 use lib.Dec.{eqb, ltb, leb}
 use lib.ListN.{length}
-use borrow.Author.Tests.{eq-eqb, ne_eqb, ltb-true}
-use Rattle.basics.specs.Numbers.{lawful_limit}
+use borrow.Author.Tests.{eq-eqb, ne_eqb, lt-ltb, le-ltb, ltb-true}
+use Rattle.basics.specs.Numbers.{watchdog, lawful_limit}
 use Rattle.basics.specs.Answers.{Answer, accepted, refused}
 use Rattle.basics.proofs.Bools.{and_both, cond-false, by-test}
 use Rattle.slots.specs.Set.{top}
@@ -16,6 +16,8 @@ use Rattle.contest.specs.Contest.{winner_of}
 use Rattle.cycle.specs.declared.Bus.{Bus}
 use Rattle.cycle.specs.declared.Transfer.TheVariants.{Idle}
 use Rattle.cycle.specs.declared.Event.{Event}
+use Rattle.cycle.specs.declared.Note.{Note}
+use Rattle.cycle.specs.declared.Note.TheVariants.{Extra}
 use Rattle.cycle.specs.declared.Moved.{Moved}
 use Rattle.cycle.specs.declared.Node.{Node}
 use Rattle.cycle.specs.declared.Sets.{Sets}
@@ -23,6 +25,7 @@ use Rattle.cycle.specs.Bounds.{in_bounds, lawful_counts, lawful_owner, lawful_tr
 use Rattle.cycle.specs.Cycle.{reset_of, unmoved, step_of, cycle_of}
 use Rattle.cycle.specs.Nodes.{sets_of, step_sets_of, step_table_of}
 use Rattle.cycle.specs.Arbitration.{starting, serving}
+use Rattle.cycle.specs.Transfers.{timed_out, age_of, aged, watched, taken, struck}
 
 module _ (b : Bus) (wants holds : ℕ) (words : List ℕ) where
   -- the contest among the members is won by the highest
@@ -39,6 +42,24 @@ module _ (b : Bus) (wants holds : ℕ) (words : List ℕ) where
       let e : Some (top b.wave) ≡ None = sym (cond-false _ _ (ne_eqb b.wave 0 n)) ∙ w in
       let z : ◌≡◌ {A = ℕ} 0 1 = cc in
       omega arith
+
+-- an open transfer, by what the code's tests find: whether the watchdog ends it, and whether a strobe takes a word
+module _ (owed age : ℕ) where
+  pub watched_late : (n : Note) → age_of age ≡ watchdog → watched owed age n ≡ timed_out
+  unfolding watched
+  watched_late n a = rw (eq-eqb (age_of age) watchdog a)
+
+  pub watched_on : (n : Note) → (age_of age ≡ watchdog → ⊥) → watched owed age n ≡ aged owed age n
+  unfolding watched
+  watched_on n a = rw (ne_eqb (age_of age) watchdog a)
+
+  pub struck_more : 1 < owed → struck owed age ≡ taken owed
+  unfolding struck
+  struck_more l = rw (lt-ltb 1 owed l)
+
+  pub struck_one : owed ≤ 1 → struck owed age ≡ watched owed age Extra
+  unfolding struck
+  struck_one l = rw (le-ltb 1 owed l)
 
 pub bounds_turn : (b : Bus) → in_bounds b ≡ true → b.turn < b.limit
 unfolding in_bounds lawful_counts

@@ -28,7 +28,7 @@ pub record Contest : Type 0 where
   pub contests : (set : ℕ) → set < 2 ^ 16 → (set ≡ 0 → ⊥) → mem (top set) set ≡ true
   pub highest : (set slot : ℕ) → slot < 16 → mem slot set ≡ true → slot ≤ top set
   pub wins : (set : ℕ) → (set ≡ 0 → ⊥) → winner_of set ≡ Some (top set)
-  -- "Some 0 alone drives no line and still wins"
+  -- "Slot 0 alone drives no line and still wins"
   pub zero-drives-none : (k lines : ℕ) → k < 4 → drives k true 0 lines ≡ false
   pub zero_settles_at_0 : Settles (2 ^ 0) 0
   pub zero_wins : winner_of (2 ^ 0) ≡ Some 0

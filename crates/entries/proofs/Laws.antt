@@ -1,9 +1,9 @@
--- Laws of an account's entries, for the callers of `gather` and `spread`, and what the two copies make. Assumes nothing.
-use mathlib.Core.Path.{◌≡◌, refl, ap}
-use Prim.Native.Nat.{ℕ, zero, suc, ◌<◌, min}
+-- Laws of an account's entries, for the callers of `gather` and `spread`, and what the copies make. Assumes nothing.
+use mathlib.Core.Path.{◌≡◌, refl, ap, ◌∙◌}
+use Prim.Native.Nat.{ℕ, zero, suc, ◌≤◌, ◌<◌, min}
 use native.Mathlib.Omega.{arith}
 use mathlib.Core.List.{List, [], ◌∷◌, ◌++◌}
-use lib.ListN.{length, get_or, take, drop, replicate}
+use lib.ListN.{length, get_or, take, drop, set, replicate, length-replicate}
 use Rattle.entries.specs.declared.Entry.{Entry}
 use Rattle.entries.specs.Entries.{zero_entry, first_of, sixteen_of, spread_of}
 
@@ -98,3 +98,56 @@ front-spread (x ∷ es) [] zero e = refl
 front-spread (x ∷ es) [] (suc k) e = absurd (omega arith)
 front-spread (x ∷ es) (n ∷ ns) zero e = absurd (omega arith)
 front-spread (x ∷ es) (n ∷ ns) (suc k) e = ap {B = List Entry} (λ r. n ∷ r) (front-spread es ns k (omega arith))
+
+-- ---- entry by entry: the first k of the new entries put in
+unfoldable pub over_of : ℕ → List Entry → List Entry → List Entry
+over_of zero es ns = es
+over_of (suc k) [] ns = []
+over_of (suc k) (e ∷ es) [] = e ∷ es
+over_of (suc k) (e ∷ es) (n ∷ ns) = n ∷ over_of k es ns
+
+pub over_none : (es ns : List Entry) → over_of 0 es ns ≡ es
+unfolding over_of
+over_none es ns = refl
+
+pub over_length : (k : ℕ) (es ns : List Entry) → length (over_of k es ns) ≡ length es
+unfolding over_of
+over_length zero es ns = refl
+over_length (suc k) [] ns = refl
+over_length (suc k) (e ∷ es) [] = refl
+over_length (suc k) (e ∷ es) (n ∷ ns) = ap suc (over_length k es ns)
+
+-- one more
+pub over_next : (k : ℕ) (es ns : List Entry) → k < length es → k < length ns → set (over_of k es ns) k (get_or ns k zero_entry) ≡ over_of (suc k) es ns
+unfolding over_of
+over_next k [] ns l m = absurd (omega arith)
+over_next k (e ∷ es) [] l m = absurd (omega arith)
+over_next zero (e ∷ es) (n ∷ ns) l m = refl
+over_next (suc k) (e ∷ es) (n ∷ ns) l m = ap {B = List Entry} (λ r. n ∷ r) (over_next k es ns (omega arith) (omega arith))
+
+-- no more is left where either has come to its end
+pub over_all : (k : ℕ) (es ns : List Entry) → min (length es) (length ns) ≤ k → over_of k es ns ≡ spread_of es ns
+unfolding over_of spread_of
+over_all zero [] ns l = refl
+over_all zero (e ∷ es) [] l = refl
+over_all zero (e ∷ es) (n ∷ ns) l = absurd (omega arith)
+over_all (suc k) [] ns l = refl
+over_all (suc k) (e ∷ es) [] l = refl
+over_all (suc k) (e ∷ es) (n ∷ ns) l = ap {B = List Entry} (λ r. n ∷ r) (over_all k es ns (omega arith))
+
+-- gathering is putting the account's entries over nothing
+over_zeros : (n : ℕ) (es : List Entry) → spread_of (replicate n zero_entry) es ≡ first_of n es
+unfolding first_of spread_of
+over_zeros zero es = refl
+over_zeros (suc n) [] = ap {B = List Entry} (λ r. zero_entry ∷ r) (over_zeros_none n)
+  where
+    over_zeros_none : (m : ℕ) → replicate m zero_entry ≡ first_of m []
+    over_zeros_none zero = refl
+    over_zeros_none (suc m) = ap {B = List Entry} (λ r. zero_entry ∷ r) (over_zeros_none m)
+over_zeros (suc n) (e ∷ es) = ap {B = List Entry} (λ r. e ∷ r) (over_zeros n es)
+
+pub over_sixteen : (k : ℕ) (es : List Entry) → min (length es) 16 ≤ k → over_of k (replicate 16 zero_entry) es ≡ sixteen_of es
+unfolding sixteen_of
+over_sixteen k es l =
+    let m : min (length (replicate 16 zero_entry)) (length es) ≤ k = omega (arith, length-replicate 16 zero_entry) in
+    over_all k (replicate 16 zero_entry) es m ∙ over_zeros 16 es

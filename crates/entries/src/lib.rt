@@ -26,7 +26,10 @@ pub fn gather(account: &[Entry]) -> [Entry; 16]
 {
     let mut entries = [Entry::zero(); 16];
     let held = account.len().min(16);
-    entries[..held].copy_from_slice(&account[..held]);
+    // Stays: entry by entry, since of a caller's sixteen the compiler then copies what is read alone; `copy_from_slice` took `accounts::share` twice the time.
+    for slot in 0..held {
+        entries[slot] = account[slot];
+    }
     entries
 }
 

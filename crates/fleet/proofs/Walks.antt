@@ -27,6 +27,15 @@ module _ (xs : List ℕ) (at : ℕ) where
   pub ended : {A : Type 0} (f : List ℕ → A) → length xs ≤ at → f (drop at xs) ≡ f []
   ended f h = ap f (drop_of_length-le xs h)
 
+-- the least of all is the least of the first and the others
+pub least_start : (xs : List ℕ) → 0 < length xs → foldl min (get_or xs 0 0) (drop 1 xs) ≡ least_of xs
+least_start [] h = absurd (omega arith)
+least_start (x ∷ xs) h = refl
+
+pub least-none : (xs : List ℕ) → length xs ≡ 0 → least_of xs ≡ 0
+least-none [] e = refl
+least-none (x ∷ xs) e = absurd (omega arith)
+
 -- std's words for what a chain of iterators makes, and the figures'
 pub folded : (f : ℕ → ℕ → ℕ) (m : ℕ) (xs : List ℕ) → fold f m xs ≡ foldl f m xs
 folded f m [] = refl

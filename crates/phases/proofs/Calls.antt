@@ -78,6 +78,15 @@ pub fed-taken : (s : Stream) (x : List ℕ) (r : Result Stream Refusal) (next : 
 unfolding fed_of
 fed-taken s x r next e answer is = ap (λ (a : Answer Stream). a.value) (sym (ap (answered s) is) ∙ answer ∙ cond-true _ _ e)
 
+-- what is answered to the limit that was looked at is answered to the one that was given, where the two are one number
+pub fresh_at : (seen limit : ℕ) (a : Answer Stream) → a ≡ fresh_of seen → seen ≡ limit → a ≡ fresh_of limit
+fresh_at seen limit a e same = e ∙ ap fresh_of same
+
+-- a refused judge's stream is all zeros
+none_is : (none : Answer Stream) → none ≡ fresh_of 0 → none.value ≡ no_stream
+unfolding fresh_of
+none_is none ze = ap (λ (a : Answer Stream). a.value) ze
+
 -- a search by its parts is the one that has found nothing
 pub fresh_is : (x : Search) → length x.spans ≡ 32 → ((i d : ℕ) → i < 32 → get_or x.spans i d ≡ 0) → x.found ≡ 0 → x.pending ≡ None → x ≡ fresh_search
 fresh_is x size zeros found pending =

@@ -17,11 +17,12 @@ use text::{Page, Place};
 // Enough for a row, however many digits the numbers have.
 const PAGE: usize = 512;
 
-// A line's name, and 1 where it is active.
+// A line's name, and 1 where it is active: one digit, so that nothing has to be spelled, twelve times in a row.
 fn put_line<const N: usize>(page: &mut Page<N>, name: &[u8], active: bool)
     ensures { page.new ≡ grown N page.old (name.now ++ decimal_of (one active)) }
 {
-    page.put_named(name, basics::one_if(active) as u64);
+    page.put(name);
+    page.put(&[b'0' + basics::one_if(active)]);
 }
 
 // The name of many lines, and their number in so many hex digits.

@@ -67,20 +67,21 @@ pub(crate) fn set_copy(call: &[u8; 64], tables: &mut Tables) {
     tables.copies[at] = numbers::word_at(call, 4);
 }
 
-// Calls 14 to 16, on the first parts of the tables, which are lent. They are a copy's, since of a struct behind a reference one field is lent at a time.
+// Calls 14 to 16, on the first parts of the tables, which are lent.
 // Stays: a match on the call's number (CALLS.md lists them), since what the three take and answer differs.
-pub(crate) fn on_lent(call: &[u8; 64], out: &mut [u8; 64], tables: &mut Tables) {
+fn on_parts(
+    call: &[u8; 64],
+    out: &mut [u8; 64],
+    lent: Sizes,
+    states: &mut [u8; 1040],
+    copies: &mut [u32; 1040],
+    memory: &mut [u32; 65],
+) {
     let slot = call[1];
     let block = numbers::size(call[2]);
-    let mut next = *tables;
-    let Sizes {
-        memory,
-        states,
-        copies,
-    } = next.lent;
-    let states = &mut next.states[..states.min(1040)];
-    let copies = &mut next.copies[..copies.min(1040)];
-    let memory = &mut next.memory[..memory.min(65)];
+    let states = &mut states[..lent.states.min(1040)];
+    let copies = &mut copies[..lent.copies.min(1040)];
+    let memory = &mut memory[..lent.memory.min(65)];
     match call[0] {
         14 => {
             let read = cache::read(states, copies, memory, block, slot);
@@ -98,7 +99,17 @@ pub(crate) fn on_lent(call: &[u8; 64], out: &mut [u8; 64], tables: &mut Tables) 
             numbers::accepted(out, evicted);
         }
     }
-    *tables = next;
+}
+
+// The same on the tables where they lie: a pattern lends their fields at once, and no table is copied.
+pub(crate) fn on_lent(call: &[u8; 64], out: &mut [u8; 64], tables: &mut Tables) {
+    let Tables {
+        states,
+        copies,
+        memory,
+        lent,
+    } = tables;
+    on_parts(call, out, *lent, states, copies, memory);
 }
 
 // Call 17.

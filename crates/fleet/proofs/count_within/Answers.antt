@@ -1,21 +1,23 @@
--- `fleet::count_within` meets its contract. Assumes nothing.
-use Prim.Native.Nat.{ℕ}
-use mathlib.Core.Path.{◌≡◌, ◌∙◌}
+-- `fleet::count_within` meets its contract: those counted and those that are left that count are all that count. Assumes nothing.
+use Prim.Native.Nat.{◌+◌}
+use mathlib.Core.Path.{◌≡◌}
 use native.Mathlib.Omega.{arith}
-use borrow.Author.Rules.{rules}
-use borrow.Author.Tests.{tests}
+use lib.ListN.{get_or, drop}
 use lib.Dec.{leb}
-use Rattle.std.proofs.lemmas.Iterator.{YieldsList-from_slice}
-use Rattle.std.proofs.lemmas.Iterator.Consumers.{count_from_yields_List, YieldsList-from_filter}
+use Rattle.basics.specs.Lines.{one}
 use Rattle.fleet.specs.Figures.{within}
-use Rattle.fleet.proofs.Walks.{counted, counted_most}
+use Rattle.fleet.proofs.Walks.{onward, ended}
 use Rattle.fleet.proofs.count_within.Goals as goal
 
+pub loop-x-init : goal.loop-x-init
+loop-x-init c = (omega arith, omega arith, omega arith)
+
+pub loop-x-preserved : goal.loop-x-preserved
+loop-x-preserved c = let a = c.args in
+    let on : within a.most (drop c.loop-x.x-index a.figures.now) ≡ one (leb (get_or a.figures.now c.loop-x.x-index 0) a.most) + within a.most (drop (c.loop-x.x-index + 1) a.figures.now) = onward a.figures.now c.loop-x.x-index (within a.most) (omega arith) in
+    (omega arith, omega arith, omega arith)
+
 pub returns : goal.returns
-returns c =
-    let xs = c.args.figures.now in
-    let m = c.args.most in
-    let e : c.count.result ≡ within m xs =
-    count_from_yields_List _ _ c.count.ensures.ran (YieldsList-from_filter _ (λ (x : ℕ). leb x m) (YieldsList-from_slice xs (cc)) c.filter.ensures.closure (λ x b q k. search (rules, tests)))
-    ∙ counted m xs in
-    (e, omega (arith, counted_most m xs))
+returns c = let a = c.args in
+    let none = ended a.figures.now c.loop-x.x-index (within a.most) (omega arith) in
+    (omega arith, omega arith)

@@ -1,5 +1,7 @@
 -- The answer is the theorem's own bound. Assumes nothing.
-use mathlib.Core.Path.{sym, ◌∙◌}
+use mathlib.Core.Path.{◌≡◌}
+use mathlib.Core.Bool.{true}
+use Rattle.basics.specs.Numbers.{lawful_limit}
 use native.Mathlib.Omega.{arith}
 use Rattle.std.specs.Prelude.{Ok}
 use Rattle.quote.proofs.Laws.{quote_is}
@@ -7,4 +9,6 @@ use Rattle.quote.proofs.Quoted.{promised}
 use Rattle.quote.proofs.worst_wait.Goals as goal
 
 pub returns : goal.returns
-returns c = promised _ _ (Ok _) (quote_is _ _ _ (omega arith) (sym c.is_limit-lawful.ensures ∙ c.if-not-lawful.false) c.worst_of.ensures)
+returns c =
+    let lawful : lawful_limit c.args.limit ≡ true = grind (arith, c.is_limit-lawful.ensures, c.if-not-lawful.false) in
+    promised _ _ (Ok _) (quote_is _ _ _ (omega arith) lawful c.worst_of.ensures)

@@ -1,6 +1,7 @@
 -- `record::lines_in` meets its contract: sixteen bytes are there, or none is read. Assumes nothing.
 use mathlib.Core.Path.{◌≡◌, refl, sym, ◌∙◌}
 use mathlib.Core.Bool.{false}
+use borrow.Author.Rules.{rules}
 use Rattle.basics.proofs.Bools.{cond-true, cond-false}
 use Rattle.record.specs.Packing.{blank, lines_of}
 use Rattle.record.specs.declared.Record.{Record}
@@ -16,7 +17,7 @@ default_blank r e = whole r ∙ rw (e.0, e.1.0, e.1.1.0, e.1.1.1.0, e.1.1.1.1.0,
 
 pub returns-then-is_too_few : goal.returns-then-is_too_few
 unfolding lines_of
-returns-then-is_too_few c = default_blank _ c.default.ensures ∙ sym (cond-true _ _ (sym c.is_too_few.ensures ∙ c.if-is_too_few.true))
+returns-then-is_too_few c = default_blank _ (search (rules, c.default.ensures)) ∙ sym (cond-true _ _ (sym c.is_too_few.ensures ∙ c.if-is_too_few.true))
 
 pub read_record-requires : goal.read_record-requires
 read_record-requires c = room _ 0 (sym c.is_too_few.ensures ∙ c.if-is_too_few.false)
